@@ -2,7 +2,7 @@
 //!
 //! glibc's malloc keeps the size of each chunk before the block that it serves, and in the next chunk whether this
 //! one is in use. [`fits`] compares that with the live blocks of a log: a block that the core's heap does not have as the
-//! log has it was given back, or is of another moment or another process. [`count_misfits`], or by threads [`count_misfits_by`],
+//! log has it was given back, or is of another moment or another process. [`count_misfits`], or by a team [`count_misfits_by`],
 //! counts such blocks.
 //!
 //! By the same words [`is_free_link`] tells a link of malloc to a free chunk from a pointer of the program:

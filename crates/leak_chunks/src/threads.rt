@@ -6,25 +6,25 @@ ghost use Rattle.leak_chunks.specs.Fit.{fits_of};
 use crate::fitting::count_misfits_among;
 use leak_blocks::{Block, Live};
 use leak_elf::Words;
+use leak_team::Team;
 use std::thread::{Threads, join};
 
 /// How many blocks a share has at least. Own rule: they take some times as long as the start of a thread.
 const LEAST: usize = 8192;
 
-/// What [`count_misfits`](crate::count_misfits) counts, by at most so many threads, the caller's among them.
+/// What [`count_misfits`](crate::count_misfits) counts, by the workers of a team.
 ///
 /// Threads that can't be had are no error: the caller does their share.
 pub fn count_misfits_by<R: Threads + Sync, W: Words + Sync>(
-    rt: &R,
+    team: &Team<'_, R>,
     words: &W,
     live: &Live,
-    workers: u32,
 ) -> u64
     ensures { result ≡ count_by not (fits_of (W.word_at words.now) live.now.blocks) }
 {
     let blocks = live.blocks();
-    let shares = (blocks.len() / LEAST).min(workers as usize);
-    count_by_shares(rt, words, blocks, shares)
+    let shares = (blocks.len() / LEAST).min(team.workers as usize);
+    count_by_shares(team, words, blocks, shares)
 }
 
 /// How many of the blocks are misfits, counted in so many shares.
@@ -32,7 +32,7 @@ pub fn count_misfits_by<R: Threads + Sync, W: Words + Sync>(
 /// The caller starts each thread itself, and takes the first share. A thread that starts another at the same moment may share
 /// a processor with it.
 fn count_by_shares<R: Threads + Sync, W: Words + Sync>(
-    rt: &R,
+    team: &Team<'_, R>,
     words: &W,
     blocks: &[Block],
     shares: usize,
@@ -52,7 +52,7 @@ fn count_by_shares<R: Threads + Sync, W: Words + Sync>(
     let of_front = move || -> u64
         requires { AreAddressed front.now }
         ensures { result ≡ count_by not (fits_of (W.word_at words.entry.now) front.entry.now) }
-    { count_by_shares(rt, words, front, left) };
-    let (last, others) = join(rt, of_back, of_front);
+    { count_by_shares(team, words, front, left) };
+    let (last, others) = join(team.rt, of_back, of_front);
     others + last
 }

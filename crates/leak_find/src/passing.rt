@@ -18,8 +18,8 @@ use leak_passing::{
 use leak_pool::Open;
 use leak_request::Options;
 use leak_search::Workers;
-use leak_sift::Sifters;
 use leak_streams::ReadCalls;
+use leak_team::Team;
 use std::thread::Threads;
 
 /// The refusal of a run whose core and log were not read.
@@ -46,17 +46,17 @@ fn limits(options: &Options, sizes: &[u64]) -> Limits
     }
 }
 
-/// The threads that sift a core: as many as workers.
-fn sifters<'a, T: Threads + Sync, P: Progress>(
+/// The workers that read a core and its log.
+fn team<'a, T: Threads + Sync, P: Progress>(
     context: &Context<'a, T, P>,
     options: &Options,
-) -> Sifters<'a, T>
-    ensures { result.count ≡ options.now.plan.workers }
+) -> Team<'a, T>
+    ensures { result.workers ≡ options.now.plan.workers }
 {
-    Sifters {
+    Team {
         rt: context.rt,
         alloc: context.alloc,
-        count: options.plan.workers(),
+        workers: options.plan.workers(),
     }
 }
 
@@ -78,7 +78,7 @@ pub(crate) fn read_passed<T: Threads + Sync, P: Progress, R: ReadCalls>(
 {
     let limits = limits(options, sizes);
     let first = &mut readers[..2];
-    match read_passing(&sifters(context, options), first, limits, options.skip) {
+    match read_passing(&team(context, options), first, limits, options.skip) {
         Ok(passed) => Ok(passed),
         Err(fault) => Err(at_passing(fault)),
     }
@@ -101,7 +101,7 @@ fn read_passed_by_texts<T: Threads + Sync, P: Progress, R: ReadCalls>(
 {
     let limits = limits(options, sizes);
     let first = &mut readers[..2];
-    match read_passing_by_texts(&sifters(context, options), first, limits, options.skip) {
+    match read_passing_by_texts(&team(context, options), first, limits, options.skip) {
         Ok(passed) => Ok(passed),
         Err(fault) => Err(at_passing(fault)),
     }

@@ -10,9 +10,10 @@ ghost use Rattle.leak_holder_search.specs.Since.{earlier, is_continued_from};
 use crate::edges::{InputEdges, edges_of};
 use crate::logs::Logs;
 use crate::since::counted;
-use leak_holders::{BlockTable, reached_blocks};
+use leak_holders::{BlockTable, Progress, Workers, reached_blocks};
 use leak_report::{Texts, number_texts};
 use leak_search::{FindError, Input, RootsAndIndex};
+use leak_team::Team;
 use std::alloc::Global;
 use std::thread::Threads;
 
@@ -32,6 +33,20 @@ pub(crate) struct Analysis<'a, 'b> {
     pub(crate) counted: Vec<bool>,
 }
 
+/// The team of these workers, which takes this memory.
+pub(crate) fn team_of<'a, R: Threads + Sync, P: Progress>(
+    workers: &Workers<'a, R, P>,
+    alloc: Global,
+) -> Team<'a, R>
+    ensures { result.workers ≡ workers.now.count }
+{
+    Team {
+        rt: workers.rt,
+        alloc,
+        workers: workers.count,
+    }
+}
+
 /// Lists what the words of an input lead to, marks its blocks over these lists, numbers its texts, and says which blocks are counted. The
 /// log is that of the input.
 ///
@@ -39,23 +54,22 @@ pub(crate) struct Analysis<'a, 'b> {
 ///
 /// `TooMany` if it has more than 2^32 - 1 live blocks. `NoMemory` can come at any time.
 pub(crate) fn analysis_of<'a, 'b, R: Threads + Sync>(
-    rt: &R,
-    alloc: Global,
+    team: &Team<'_, R>,
     input: &'a Input<'a>,
     indexed: &'a RootsAndIndex<'a>,
     logs: &Logs<'b>,
-    workers: u32,
 ) -> Result<Analysis<'a, 'b>, FindError>
     requires read { IsRead input.now.image logs.now.log.now input.now }
     requires continued { IsTrue (is_continued_from (earlier logs.now.since) logs.now.log.now) }
     requires of { AreRootsAndIndexOf input.now indexed.now }
-    requires some { 0 < workers }
+    requires some { 0 < team.now.workers }
     ensures ok { IfOk result (IsAnalysisOf input.now.image logs.now
         indexed.now.lookup.reading input.now.skip) }
     ensures refused { IfErr result (λ e. e ≢ FindError.NoMemory
         → IsFaultOfHolders input.now.image logs.now.log.now (earlier logs.now.since) e) }
 {
-    let edges = edges_of(rt, alloc, input, indexed, workers)?;
+    let alloc = team.alloc;
+    let edges = edges_of(team, input, indexed)?;
     let set = reached_blocks(alloc, &edges.listed, edges.first.as_slice())?;
     let texts = number_texts(alloc, input.live.blocks(), logs.log)?;
     let counted = counted(alloc, logs.since, input.live.blocks())?;

@@ -9,7 +9,7 @@ ghost use Rattle.leak_search.specs.declared.why.WhyError.TheVariants.{Find};
 ghost use Rattle.leak_holder_search.specs.Held.{FindsHeld, IsHeldFault};
 ghost use Rattle.leak_holder_search.specs.Since.{earlier};
 
-use crate::analysis::analysis_of;
+use crate::analysis::{analysis_of, team_of};
 use crate::choosing::choice_of;
 use crate::files::Files;
 use crate::held::held_of;
@@ -90,16 +90,10 @@ pub fn find_held_in<R: Threads + Sync, P: Progress>(
     if !is_continued(logs) {
         return Err(WhyError::Find(FindError::NotPrefix));
     }
-    let consistency = consistency_of_one_by(
-        workers.rt,
-        workers.count,
-        alloc,
-        input,
-        false,
-        rules.other_heap,
-    )?;
+    let team = team_of(workers, alloc);
+    let consistency = consistency_of_one_by(&team, input, false, rules.other_heap)?;
     let indexed = find_roots_and_index(alloc, input, rules.reading)?;
-    let analysis = analysis_of(workers.rt, alloc, input, &indexed, logs, workers.count)?;
+    let analysis = analysis_of(&team, input, &indexed, logs)?;
     let Some(block) = block_at(&analysis.input.live, question.address) else {
         return Err(WhyError::NoBlock(question.address));
     };

@@ -7,7 +7,7 @@ ghost use Rattle.leak_search.specs.Signs.{AreSigns};
 ghost use Rattle.leak_holder_search.specs.Holders.{FindsHolders, IsFaultOfHolders};
 ghost use Rattle.leak_holder_search.specs.Since.{earlier};
 
-use crate::analysis::analysis_of;
+use crate::analysis::{analysis_of, team_of};
 use crate::files::Files;
 use crate::logs::Logs;
 use crate::ranking::rows_of;
@@ -92,16 +92,10 @@ pub fn find_holders_in<R: Threads + Sync, P: Progress>(
     if !is_continued(logs) {
         return Err(FindError::NotPrefix);
     }
-    let consistency = consistency_of_one_by(
-        workers.rt,
-        workers.count,
-        alloc,
-        input,
-        false,
-        rules.other_heap,
-    )?;
+    let team = team_of(workers, alloc);
+    let consistency = consistency_of_one_by(&team, input, false, rules.other_heap)?;
     let indexed = find_roots_and_index(alloc, input, rules.reading)?;
-    let analysis = analysis_of(workers.rt, alloc, input, &indexed, logs, workers.count)?;
+    let analysis = analysis_of(&team, input, &indexed, logs)?;
     let rows = rows_of(workers, alloc, &analysis)?;
     let report = text(alloc, &analysis, rows.as_slice())?;
     Ok(Holding {

@@ -83,14 +83,8 @@ pub fn find_passed<R: std::thread::Threads + Sync, G: Gate + Sync>(
     } = passed;
     let held = held.as_slice();
     let whole = input_of_passed(alloc, rules.skip, held, (&words, len), read)?;
-    let consistency = consistency_of_one_by(
-        workers.rt,
-        workers.plan.workers(),
-        alloc,
-        &whole,
-        lists_misfits,
-        rules.other_heap,
-    )?;
+    let team = workers.team(alloc);
+    let consistency = consistency_of_one_by(&team, &whole, lists_misfits, rules.other_heap)?;
     let others = without_core(whole);
     let left = left_to_mark(words, &others.live, rules.skip);
     let input = input_to_mark(alloc, held, (&left, len), others)?;

@@ -11,9 +11,9 @@ use crate::sifted::sift_core;
 use leak_blocks::{Live, Replayed, SmallSpans, replay_bytes};
 use leak_mtrace::LogError;
 use leak_roots::Skip;
-use leak_sift::Sifters;
 use leak_sparse::SparseWords;
 use leak_streams::{ReadCalls, ReadFault};
+use leak_team::Team;
 use std::alloc::{AllocError, Global};
 use std::thread::Threads;
 
@@ -29,7 +29,7 @@ fn no_blocks(alloc: Global) -> Result<Live, AllocError>
 
 /// Sifts a core behind its head by the log as it was read: if the log has a fault, no word is kept.
 fn sift_by_log<T: Threads + Sync, R: ReadCalls>(
-    sifters: &Sifters<'_, T>,
+    team: &Team<'_, T>,
     front: Front,
     reader: &mut R,
     limit: u64,
@@ -46,17 +46,17 @@ fn sift_by_log<T: Threads + Sync, R: ReadCalls>(
         → IsGivenUp R.calls limit first reader.new f) }
 {
     match read {
-        Ok(parts) => sift_core(sifters, front, reader, limit, &parts.0.live, skip),
+        Ok(parts) => sift_core(team, front, reader, limit, &parts.0.live, skip),
         Err(_) => {
-            let none = no_blocks(sifters.alloc)?;
-            sift_core(sifters, front, reader, limit, &none, skip)
+            let none = no_blocks(team.alloc)?;
+            sift_core(team, front, reader, limit, &none, skip)
         }
     }
 }
 
 /// Reads the rest of a core that was begun, and returns what is kept of it, by the log as it was read.
 pub(crate) fn keep_core<T: Threads + Sync, R: ReadCalls>(
-    sifters: &Sifters<'_, T>,
+    team: &Team<'_, T>,
     begun: Begun,
     reader: &mut R,
     limit: u64,
@@ -73,7 +73,7 @@ pub(crate) fn keep_core<T: Threads + Sync, R: ReadCalls>(
         → IsGivenUp R.calls limit first reader.new f) }
 {
     match begun {
-        Begun::Whole(bytes) => Ok((bytes, SparseWords::new(sifters.alloc), 0)),
-        Begun::Head(front) => sift_by_log(sifters, front, reader, limit, read, skip),
+        Begun::Whole(bytes) => Ok((bytes, SparseWords::new(team.alloc), 0)),
+        Begun::Head(front) => sift_by_log(team, front, reader, limit, read, skip),
     }
 }

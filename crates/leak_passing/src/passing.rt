@@ -11,11 +11,11 @@ use crate::passed::{Passed, PassedByTexts};
 use leak_replaying::{LogByTexts, replay_reading};
 use leak_roots::Skip;
 use leak_search::read_log;
-use leak_sift::Sifters;
 use leak_streams::{ReadCalls, read_sized};
+use leak_team::Team;
 use std::thread::Threads;
 
-/// How many bytes of a piece are for each sifter: 512 KiB. Own rule: they fit a processor's second cache, and take some
+/// How many bytes of a piece are for each worker: 512 KiB. Own rule: they fit a processor's second cache, and take some
 /// times as long as the start of a thread.
 const PART: usize = 524_288;
 
@@ -34,7 +34,7 @@ pub struct Limits {
     pub log_size: u64,
 }
 
-/// How many bytes of a core are read at a time, if so many threads sift them.
+/// How many bytes of a core are read at a time, if so many workers sift them.
 fn piece_size(count: u32) -> usize
     ensures { result ≡ min (max 1 count * PART) MOST_PIECE }
 {
@@ -43,7 +43,7 @@ fn piece_size(count: u32) -> usize
 
 /// Begins to read a core, and reads its log.
 fn begin_both<T: Threads + Sync, R: ReadCalls>(
-    sifters: &Sifters<'_, T>,
+    team: &Team<'_, T>,
     readers: &mut [R],
     limits: Limits,
     skip: Skip,
@@ -54,9 +54,9 @@ fn begin_both<T: Threads + Sync, R: ReadCalls>(
     ensures refused { IfErr result (λ fault.
         AreTwo readers.old readers.new (IsPassingFault R.calls limits fault)) }
 {
-    let alloc = sifters.alloc;
+    let alloc = team.alloc;
     let (limit, size) = (limits.core, limits.core_size);
-    let piece = piece_size(sifters.count);
+    let piece = piece_size(team.workers);
     let begun = match begin_core(alloc, &mut readers[0], limit, size, piece, skip) {
         Ok(begun) => begun,
         Err(fault) => return Err(PassingFault::Core(fault)),
@@ -69,7 +69,7 @@ fn begin_both<T: Threads + Sync, R: ReadCalls>(
 
 /// Begins to read a core, and replays its log while that is read.
 fn begin_and_replay<T: Threads + Sync, R: ReadCalls>(
-    sifters: &Sifters<'_, T>,
+    team: &Team<'_, T>,
     readers: &mut [R],
     limits: Limits,
     skip: Skip,
@@ -80,9 +80,9 @@ fn begin_and_replay<T: Threads + Sync, R: ReadCalls>(
     ensures refused { IfErr result (λ fault.
         AreTwo readers.old readers.new (IsPassingFault R.calls limits fault)) }
 {
-    let alloc = sifters.alloc;
+    let alloc = team.alloc;
     let (limit, size) = (limits.core, limits.core_size);
-    let piece = piece_size(sifters.count);
+    let piece = piece_size(team.workers);
     let begun = match begin_core(alloc, &mut readers[0], limit, size, piece, skip) {
         Ok(begun) => begun,
         Err(fault) => return Err(PassingFault::Core(fault)),
@@ -100,8 +100,8 @@ fn begin_and_replay<T: Threads + Sync, R: ReadCalls>(
 }
 
 /// Reads a core and its log, in one pass over each: the core's head, the log, and then the rest of the core, of which
-/// only the words are kept that a search needs. The first reader has the core, the second the log. How many sifters there
-/// are changes nothing of what is read and kept.
+/// only the words are kept that a search needs. The first reader has the core, the second the log. How many workers the
+/// team has changes nothing of what is read and kept.
 ///
 /// A core that can't be sifted is read whole, and so is every core if dead stack is left out. Faults in the core or in
 /// the log refuse nothing here.
@@ -111,7 +111,7 @@ fn begin_and_replay<T: Threads + Sync, R: ReadCalls>(
 /// `Core` if the core is not read to its end, or if there is no memory for what is kept of it; `Log` if the log is not
 /// read to its end. The first that comes, in the order of the reading.
 pub fn read_passing<T: Threads + Sync, R: ReadCalls>(
-    sifters: &Sifters<'_, T>,
+    team: &Team<'_, T>,
     readers: &mut [R],
     limits: Limits,
     skip: Skip,
@@ -122,9 +122,9 @@ pub fn read_passing<T: Threads + Sync, R: ReadCalls>(
     ensures refused { IfErr result (λ fault.
         AreTwo readers.old readers.new (IsPassingFault R.calls limits fault)) }
 {
-    let (begun, log) = begin_both(sifters, readers, limits, skip)?;
-    let read = read_log(sifters.alloc, skip, log.as_slice());
-    match keep_core(sifters, begun, &mut readers[0], limits.core, &read, skip) {
+    let (begun, log) = begin_both(team, readers, limits, skip)?;
+    let read = read_log(team.alloc, skip, log.as_slice());
+    match keep_core(team, begun, &mut readers[0], limits.core, &read, skip) {
         Ok((held, words, len)) => Ok(Passed {
             held,
             words,
@@ -144,7 +144,7 @@ pub fn read_passing<T: Threads + Sync, R: ReadCalls>(
 /// Those of [`read_passing`]. Want of memory for the texts refuses nothing here: it counts as want of memory for the
 /// log.
 pub fn read_passing_by_texts<T: Threads + Sync, R: ReadCalls>(
-    sifters: &Sifters<'_, T>,
+    team: &Team<'_, T>,
     readers: &mut [R],
     limits: Limits,
     skip: Skip,
@@ -155,8 +155,8 @@ pub fn read_passing_by_texts<T: Threads + Sync, R: ReadCalls>(
     ensures refused { IfErr result (λ fault.
         AreTwo readers.old readers.new (IsPassingFault R.calls limits fault)) }
 {
-    let (begun, LogByTexts { read, texts }) = begin_and_replay(sifters, readers, limits, skip)?;
-    match keep_core(sifters, begun, &mut readers[0], limits.core, &read, skip) {
+    let (begun, LogByTexts { read, texts }) = begin_and_replay(team, readers, limits, skip)?;
+    match keep_core(team, begun, &mut readers[0], limits.core, &read, skip) {
         Ok((held, words, len)) => Ok(PassedByTexts {
             held,
             words,

@@ -12,9 +12,10 @@ use crate::begun::Front;
 use leak_blocks::Live;
 use leak_elf::Segment;
 use leak_roots::Skip;
-use leak_sift::{Sieve, Sifters, Sifting};
+use leak_sift::{Sieve, Sifting};
 use leak_sparse::SparseWords;
 use leak_streams::{ReadCalls, ReadFault, Reading};
+use leak_team::Team;
 use std::thread::Threads;
 
 /// A law, for proofs: each number in a slice of bytes is below 256.
@@ -51,7 +52,7 @@ fn make_room(sifting: &mut Sifting<'_>, words: usize, blocks: usize)
 
 /// Sifts the pieces of a core that are left.
 fn sift_pieces<T: Threads + Sync, R: ReadCalls>(
-    sifters: &Sifters<'_, T>,
+    team: &Team<'_, T>,
     mut reading: Reading,
     reader: &mut R,
     limit: u64,
@@ -66,7 +67,7 @@ fn sift_pieces<T: Threads + Sync, R: ReadCalls>(
     'pieces: while reading.next_piece(reader, limit)? {
         let piece = reading.piece();
         are_bytes(piece);
-        sifting.take(sifters, piece)?;
+        sifting.take(team, piece)?;
     }
     Ok(())
 }
@@ -74,7 +75,7 @@ fn sift_pieces<T: Threads + Sync, R: ReadCalls>(
 /// Sifts a core behind its head to its end, by the live blocks. Returns its head, what is kept of the words behind it,
 /// and how many bytes the core has there.
 pub(crate) fn sift_core<T: Threads + Sync, R: ReadCalls>(
-    sifters: &Sifters<'_, T>,
+    team: &Team<'_, T>,
     front: Front,
     reader: &mut R,
     limit: u64,
@@ -99,15 +100,15 @@ pub(crate) fn sift_core<T: Threads + Sync, R: ReadCalls>(
     are_bytes(bytes);
     let sieve = Sieve::new(live, skip.links);
     let parts = segments.as_slice();
-    let mut sifting = Sifting::new(sifters.alloc, parts, head as u64, sieve);
+    let mut sifting = Sifting::new(team.alloc, parts, head as u64, sieve);
     make_room(
         &mut sifting,
         words_ahead(parts, head as u64),
         live.blocks().len(),
     );
-    sifting.take(sifters, &bytes[head..])?;
+    sifting.take(team, &bytes[head..])?;
     held.truncate(head);
-    sift_pieces(sifters, reading, reader, limit, &mut sifting)?;
+    sift_pieces(team, reading, reader, limit, &mut sifting)?;
     let (words, len) = sifting.finish();
     Ok((held, words, len))
 }

@@ -10,35 +10,12 @@ use leak_blocks::Live;
 use leak_elf::Words;
 use leak_index::Lookup;
 use leak_roots::Roots;
+use leak_team::Team;
 use std::alloc::{AllocError, Global};
 use std::thread::{Threads, join};
 
 /// How many ranges a share has at least. Own rule: they take some times as long as the start of a thread.
 const LEAST: usize = 4_096;
-
-/// The workers that go over root words.
-#[derive(Clone, Copy)]
-pub struct Team<'a, R: Threads + Sync> {
-    /// What starts them.
-    pub rt: &'a R,
-    /// Whose memory they take.
-    pub alloc: Global,
-    /// How many they are at most, the caller among them. 0 is the caller alone, as 1 is.
-    pub workers: u32,
-}
-
-impl<'a, R: Threads + Sync> Team<'a, R> {
-    /// The same of so many workers.
-    fn of(&self, workers: u32) -> Team<'a, R>
-        ensures { result.workers ≡ workers }
-    {
-        Team {
-            rt: self.rt,
-            alloc: self.alloc,
-            workers,
-        }
-    }
-}
 
 /// Those of the ranges that lead to a block.
 fn leading_of<W: Words, L: Lookup>(

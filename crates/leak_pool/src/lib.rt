@@ -5,7 +5,7 @@
 //! over the words, from blocks that are marked already ([`Start`]). Each gives a [`Marked`]: for each block whether it is
 //! marked, the blocks that each worker claimed, and the number of rounds. To tell who holds the memory, it lists what each
 //! block leads to by [`list_edges`], as [`Listed`], in whatever room that takes, and what the roots lead to by [`first_blocks`].
-//! Before it marks one core it lets go of the root words that lead nowhere, by [`leading_roots`] and the workers of a [`Team`].
+//! Before it marks one core it lets go of the root words that lead nowhere, by [`leading_roots`] and the workers of a `leak_team::Team`.
 //!
 //! [`mark`], which marks one core over its words, and [`mark_alone`], which does so on the caller's thread, are for libraries
 //! and tests. So are gates ([`Gate`]) that hold a worker: the program's is [`Open`].
@@ -56,7 +56,7 @@ mod worker;
 pub use alone::mark_alone;
 pub use error::PoolError;
 pub use gate::{Gate, Open};
-pub use leading::{Team, leading_roots};
+pub use leading::leading_roots;
 pub use listed::{Listed, first_blocks, list_edges};
 pub use marked::Marked;
 pub use marking::{mark, mark_from};

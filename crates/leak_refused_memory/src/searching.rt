@@ -7,9 +7,10 @@ use leak_elf::Image;
 use leak_index::{Hits, Lookup, Paged, Reading, Sorted};
 use leak_mtrace::Log;
 use leak_notes::Threads;
-use leak_pool::{Team, leading_roots};
+use leak_pool::leading_roots;
 use leak_roots::{CutError, Piece, Roots};
 use leak_stacks::dead_spans;
+use leak_team::Team;
 use std::alloc::{AllocError, Global};
 
 /// `Paged::new` over four blocks that touch.

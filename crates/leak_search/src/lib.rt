@@ -16,7 +16,7 @@
 //! [`find_in`] searches it, with the log. Without the log, [`search_from`] does once [`consistency_of_one`] has told which
 //! blocks fit: of what that finds, a [`Searched`], [`found_of`] makes the report. `specs/Searched.antt` says what it is; `specs/Inputs.antt` says what an accepted input is, and which of its faults comes first.
 //! [`is_continued`] compares two logs, and [`count_lines`] counts the complete lines of one.
-//! [`consistency_of_one`], by threads [`consistency_of_one_by`], and [`consistency_of_two`] say what is odd about inputs. [`find_roots_and_index`] finds the root words, by
+//! [`consistency_of_one`], by a team [`consistency_of_one_by`], and [`consistency_of_two`] say what is odd about inputs. [`find_roots_and_index`] finds the root words, by
 //! [`find_roots`], and makes the lookup, and [`mark_input`] marks blocks over them by workers. [`head_of`] gives the
 //! numbers of a report's first lines, and [`searched_of`] tells the heads among the blocks that are not marked.
 //!

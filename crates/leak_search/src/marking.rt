@@ -12,6 +12,7 @@ use crate::inputs::{Input, find_roots};
 use leak_index::{Paged, Reading};
 use leak_pool::{Gate, Marked, Plan, PoolError, mark_by_edges};
 use leak_roots::Roots;
+use leak_team::Team;
 use std::alloc::{AllocError, Global};
 use std::thread::Threads;
 
@@ -21,6 +22,19 @@ pub struct Workers<'a, R: Threads + Sync, G: Gate + Sync> {
     pub rt: &'a R,
     pub plan: Plan,
     pub gate: &'a G,
+}
+
+impl<'a, R: Threads + Sync, G: Gate + Sync> Workers<'a, R, G> {
+    /// The team of these workers, which takes this memory.
+    pub fn team(&self, alloc: Global) -> Team<'a, R>
+        ensures { result.workers ≡ self.now.plan.workers }
+    {
+        Team {
+            rt: self.rt,
+            alloc,
+            workers: self.plan.workers(),
+        }
+    }
 }
 
 /// What chains of an input begin with, and what tells where a word of it leads to.

@@ -12,7 +12,7 @@ use crate::{
     Consistency, FindError, Found, Input, RootsAndIndex, Rules, Searched, Workers,
     consistency_of_one_by, found_of, head_of, mark_input, read_input, searched_of,
 };
-use leak_pool::{Gate, Team, leading_roots};
+use leak_pool::{Gate, leading_roots};
 use std::alloc::Global;
 
 /// Searches a core and its log by the rules and by the workers.
@@ -70,14 +70,8 @@ pub fn find_in<R: std::thread::Threads + Sync, G: Gate + Sync>(
     ensures refused { IfErr result (λ e. e ≢ FindError.NoMemory
         → IsFaultOfOne input.now.image log.now e) }
 {
-    let consistency = consistency_of_one_by(
-        workers.rt,
-        workers.plan.workers(),
-        alloc,
-        input,
-        lists_misfits,
-        rules.other_heap,
-    )?;
+    let team = workers.team(alloc);
+    let consistency = consistency_of_one_by(&team, input, lists_misfits, rules.other_heap)?;
     let searched = search_from(workers, alloc, input, consistency, rules)?;
     found_of(alloc, &input.live, searched, log)
 }
@@ -109,11 +103,7 @@ pub fn search_from<R: std::thread::Threads + Sync, G: Gate + Sync>(
 {
     let RootsAndIndex { roots, lookup } = prepare(workers, alloc, input, rules.reading)?;
     let head = head_of(input, &roots, None);
-    let team = Team {
-        rt: workers.rt,
-        alloc,
-        workers: workers.plan.workers(),
-    };
+    let team = workers.team(alloc);
     let roots = leading_roots(&team, &input.image, &lookup, roots, &input.live)?;
     let indexed = RootsAndIndex { roots, lookup };
     let marked = mark_input(workers, alloc, input, &indexed)?;

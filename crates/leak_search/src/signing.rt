@@ -8,6 +8,7 @@ ghost use Rattle.leak_search.specs.Signs.{signs_with, fits_with, misfits_counted
 use crate::inputs::Input;
 use leak_chunks::{count_misfits, count_misfits_by, fits};
 use leak_report::{Signs, count_clear};
+use leak_team::Team;
 use std::alloc::{AllocError, Global};
 use std::thread::Threads;
 
@@ -114,12 +115,10 @@ pub fn consistency_of_one(
     Ok(Consistency { signs, fits })
 }
 
-/// What is odd about one input, as [`consistency_of_one`] tells it. At most so many threads count the misfits, the caller's among
-/// them. If it is kept which blocks fit, the caller asks that alone.
+/// What is odd about one input, as [`consistency_of_one`] tells it. The workers of the team count the misfits. If it is kept
+/// which blocks fit, the caller asks that alone.
 pub fn consistency_of_one_by<R: Threads + Sync>(
-    rt: &R,
-    workers: u32,
-    alloc: Global,
+    team: &Team<'_, R>,
     input: &Input,
     check: bool,
     other_heap: bool,
@@ -129,10 +128,10 @@ pub fn consistency_of_one_by<R: Threads + Sync>(
         option_map (λ v. v.items) odd.fits ≡ fits_with check input.now) }
 {
     if check || other_heap {
-        return consistency_of_one(alloc, input, check, other_heap);
+        return consistency_of_one(team.alloc, input, check, other_heap);
     }
-    let mut signs = Vec::with_capacity(alloc, 1)?;
-    let misfits = count_misfits_by(rt, &input.image, &input.live, workers);
+    let mut signs = Vec::with_capacity(team.alloc, 1)?;
+    let misfits = count_misfits_by(team, &input.image, &input.live);
     signs.push(signs_of(input, misfits))?;
     Ok(Consistency { signs, fits: None })
 }

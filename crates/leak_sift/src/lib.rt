@@ -9,7 +9,7 @@
 //! [`Sifting`] takes the bytes of a core file as they pass, in pieces of any length, and returns the kept words as a
 //! `leak_sparse::SparseWords`: one word for each 8 bytes. The segments tell where these lie in memory. They must be
 //! orderly, which [`are_orderly`] tells: in the file they have the order of their addresses. A piece of many bytes is
-//! sifted by [`Sifters`], threads that take a part of it each; how many there are changes nothing of what is kept.
+//! sifted by a `leak_team::Team`, whose workers take a part of it each; how many there are changes nothing of what is kept.
 //!
 //! Which words are kept is own rule; `leak_alike` is about searches of a core that has 0 in place of the others. Words that
 //! tell of stacks are not considered here. The contracts don't say that the bytes are those of the file that has the
@@ -33,4 +33,3 @@ pub use laws::{worked_siftings, worked_words};
 pub use orderly::are_orderly;
 pub use sieve::{Sieve, range_of};
 pub use sifting::Sifting;
-pub use threads::Sifters;

@@ -7,10 +7,11 @@ ghost use Rattle.leak_sift.specs.Sifted.{HasTaken, Takes, TakesSome, end_of};
 use crate::appending::append_words;
 use crate::places::Places;
 use crate::sieve::Sieve;
-use crate::threads::{LEAST, Mesh, Sifters, sift_parts};
+use crate::threads::{LEAST, Mesh, sift_parts};
 use crate::waiting::Waiting;
 use leak_elf::Segment;
 use leak_sparse::SparseWords;
+use leak_team::Team;
 use std::alloc::{AllocError, Global};
 use std::marker::Model;
 use std::thread::Threads;
@@ -70,13 +71,13 @@ impl<'a> Sifting<'a> {
         self.words.reserve(count, kept)
     }
 
-    /// Takes the next bytes, by the sifters if they are many. Those after the last complete word wait for the rest of it.
+    /// Takes the next bytes, by the team if they are many. Those after the last complete word wait for the rest of it.
     ///
     /// An error is an allocation that failed, or an offset past 64 bits. Some of the bytes were taken then. Threads that
     /// can't be had are no error: the caller does their share.
     pub fn take<T: Threads + Sync>(
         &mut self,
-        sifters: &Sifters<'_, T>,
+        team: &Team<'_, T>,
         bytes: &[u8],
     ) -> Result<(), AllocError>
         ensures ok { OnOk result (Takes self.old bytes.now self.new) }
@@ -95,7 +96,7 @@ impl<'a> Sifting<'a> {
             self.complete(first)?;
         }
         let (whole, others) = rest.split_at(rest.len() / 8 * 8);
-        self.append_by(sifters, whole)?;
+        self.append_by(team, whole)?;
         self.wait(others);
         Ok(())
     }
@@ -183,10 +184,10 @@ impl<'a> Sifting<'a> {
         )
     }
 
-    /// Takes bytes of complete words, if none waits, by as many sifters as have enough to do.
+    /// Takes bytes of complete words, if none waits, by as many workers as have enough to do.
     fn append_by<T: Threads + Sync>(
         &mut self,
-        sifters: &Sifters<'_, T>,
+        team: &Team<'_, T>,
         bytes: &[u8],
     ) -> Result<(), AllocError>
         requires none { self.old.waiting ≡ [] }
@@ -197,20 +198,20 @@ impl<'a> Sifting<'a> {
         ensures none { self.new.waiting ≡ [] }
         ensures end { OnOk result (end_of self.new ≡ end_of self.old + length bytes.now) }
     {
-        if sifters.count < 2 || bytes.len() < 2 * LEAST {
+        if team.workers < 2 || bytes.len() < 2 * LEAST {
             return self.append(bytes);
         }
-        let count = (bytes.len() / LEAST).min(sifters.count as usize) as u32;
-        // Up to the end of the last group, so that what the sifters keep begins with a group.
+        let count = (bytes.len() / LEAST).min(team.workers as usize) as u32;
+        // Up to the end of the last group, so that what the workers keep begins with a group.
         let (first, rest) = bytes.split_at(512 - 8 * (self.words.len() % 64));
         self.append(first)?;
-        self.append_groups(sifters, rest, count)
+        self.append_groups(team, rest, count)
     }
 
-    /// The same by so many sifters, if the words so far fill whole groups.
+    /// The same by so many workers, if the words so far fill whole groups.
     fn append_groups<T: Threads + Sync>(
         &mut self,
-        sifters: &Sifters<'_, T>,
+        team: &Team<'_, T>,
         bytes: &[u8],
         count: u32,
     ) -> Result<(), AllocError>
@@ -228,7 +229,7 @@ impl<'a> Sifting<'a> {
             sieve: &self.sieve,
         };
         let offset = self.head + 8 * self.words.len() as u64;
-        let words = sift_parts(sifters, &mesh, offset, bytes, count)?;
+        let words = sift_parts(team, &mesh, offset, bytes, count)?;
         self.words.append(&words)
     }
 }

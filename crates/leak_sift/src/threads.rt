@@ -6,6 +6,7 @@ use crate::appending::append_words;
 use crate::places::Places;
 use crate::sieve::Sieve;
 use leak_sparse::SparseWords;
+use leak_team::Team;
 use std::alloc::{AllocError, Global};
 use std::thread::{Threads, join};
 
@@ -15,17 +16,6 @@ pub(crate) const LEAST: usize = 131_072;
 
 /// How many bytes a group of words has. The words of each part but the last fill whole groups.
 const GROUP: usize = 512;
-
-/// The threads that sift a core.
-#[derive(Clone, Copy)]
-pub struct Sifters<'a, T: Threads + Sync> {
-    /// What starts them.
-    pub rt: &'a T,
-    /// Whose memory they take.
-    pub alloc: Global,
-    /// How many they are at most, the caller among them.
-    pub count: u32,
-}
 
 /// What decides which words of a core are kept.
 #[derive(Clone, Copy)]
@@ -52,12 +42,12 @@ fn sift_part(
     Ok(words)
 }
 
-/// The same, by the sifters, of which so many are left.
+/// The same, by so many workers of the team.
 ///
 /// The caller starts each of them itself, and takes the first part. A thread that starts another at the same moment may
 /// share a processor with it.
 pub(crate) fn sift_parts<T: Threads + Sync>(
-    sifters: &Sifters<'_, T>,
+    team: &Team<'_, T>,
     mesh: &Mesh,
     offset: u64,
     bytes: &[u8],
@@ -67,7 +57,7 @@ pub(crate) fn sift_parts<T: Threads + Sync>(
     ensures { IfOk result (λ words.
         words ≡ sifted mesh.now.sieve.now mesh.now.places.now offset bytes.now) }
 {
-    let alloc = sifters.alloc;
+    let alloc = team.alloc;
     if count < 2 {
         return sift_part(alloc, mesh, offset, bytes);
     }
@@ -83,8 +73,8 @@ pub(crate) fn sift_parts<T: Threads + Sync>(
         requires { offset + length front.now < 2 ^ 64 }
         ensures { IfOk result (λ words. words ≡ sifted mesh.entry.now.sieve.now
             mesh.entry.now.places.now offset front.entry.now) }
-    { sift_parts(sifters, mesh, offset, front, left) };
-    let (last, others) = join(sifters.rt, of_back, of_front);
+    { sift_parts(team, mesh, offset, front, left) };
+    let (last, others) = join(team.rt, of_back, of_front);
     let mut words = others?;
     let last = last?;
     words.append(&last)?;

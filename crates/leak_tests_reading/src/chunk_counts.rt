@@ -5,6 +5,7 @@ use crate::cores::made;
 use crate::samples::lives;
 use leak_chunks::{count_misfits, count_misfits_by};
 use leak_elf::Image;
+use leak_team::Team;
 use std::alloc::Global;
 use std::test::Fail;
 
@@ -62,8 +63,9 @@ fn any_number_of_workers_counts_all_misfits(rt: HostRuntime) -> Result<(), Fail>
         let wanted = misfits.len() as u64;
         same_in(&rt, &wanted, count_misfits(&image, &live), wanted);
         for workers in [0, 1, 2, 3, 4, 64] {
-            let found = count_misfits_by(&rt, &image, &live, workers);
-            same_in(&rt, &(wanted, workers), found, wanted);
+            let rt = &rt;
+            let found = count_misfits_by(&Team { rt, alloc, workers }, &image, &live);
+            same_in(rt, &(wanted, workers), found, wanted);
         }
     }
     Ok(())
@@ -83,8 +85,9 @@ fn few_blocks_are_counted_as_well(rt: HostRuntime) -> Result<(), Fail> {
     for (log, wanted) in cases {
         let live = lives(alloc, log)?;
         for workers in [1, 64] {
-            let found = count_misfits_by(&rt, &image, &live, workers);
-            same_in(&rt, &(log, workers), found, wanted);
+            let rt = &rt;
+            let found = count_misfits_by(&Team { rt, alloc, workers }, &image, &live);
+            same_in(rt, &(log, workers), found, wanted);
         }
     }
     Ok(())

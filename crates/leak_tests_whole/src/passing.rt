@@ -9,7 +9,7 @@ use leak_find::{ReadFault, Skip};
 use leak_passing::{
     Limits, Numbers, Passed, PassedByTexts, PassingFault, read_passing, read_passing_by_texts,
 };
-use leak_sift::Sifters;
+use leak_team::Team;
 use std::alloc::Global;
 use std::process::Abort;
 use std::test::Fail;
@@ -30,9 +30,9 @@ const TWO_TEXTS: &str =
 /// Of the sample core, whose head has 536 bytes, a word that leads to the block and one that leads nowhere.
 const WORDS: [(u64, u64); 2] = [(0x10000, 0x10100), (0x10008, 0x20000)];
 
-/// Reads a core, so many bytes at a time, and a log, by the sifters.
+/// Reads a core, so many bytes at a time, and a log, by the team.
 fn pass_core<T: Threads + Sync>(
-    sifters: &Sifters<'_, T>,
+    team: &Team<'_, T>,
     core: &[u8],
     step: usize,
     log: &str,
@@ -40,21 +40,21 @@ fn pass_core<T: Threads + Sync>(
     skip: Skip,
 ) -> Result<Passed, PassingFault> {
     let mut readers = [Steps::of(core, step), Steps::of(log.as_bytes(), usize::MAX)];
-    read_passing(sifters, &mut readers, limits, skip)
+    read_passing(team, &mut readers, limits, skip)
 }
 
-/// Reads the sample core with the words, so many bytes at a time, and the log of the one block, by this many sifters.
+/// Reads the sample core with the words, so many bytes at a time, and the log of the one block, by this many workers.
 fn pass<T: AllocGlobal + Threads + Sync>(
     rt: &T,
-    count: u32,
+    workers: u32,
     step: usize,
     limits: Limits,
     skip: Skip,
 ) -> Result<Result<Passed, PassingFault>, Fail> {
     let alloc = rt.alloc();
     let core = core_k(alloc, &WORDS)?;
-    let sifters = Sifters { rt, alloc, count };
-    Ok(pass_core(&sifters, core.as_slice(), step, ONE_BLOCK, limits, skip))
+    let team = Team { rt, alloc, workers };
+    Ok(pass_core(&team, core.as_slice(), step, ONE_BLOCK, limits, skip))
 }
 
 /// The numbers of few texts, or none if there are many.
@@ -68,24 +68,24 @@ fn few(numbers: &Numbers) -> &[u8] {
 /// Reads the same core and this log, and keeps texts in its place.
 fn pass_by_texts<T: AllocGlobal + Threads + Sync>(
     rt: &T,
-    count: u32,
+    workers: u32,
     step: usize,
     log: &str,
     limits: Limits,
 ) -> Result<Result<PassedByTexts, PassingFault>, Fail> {
     let alloc = rt.alloc();
     let core = core_k(alloc, &WORDS)?;
-    let sifters = Sifters { rt, alloc, count };
+    let team = Team { rt, alloc, workers };
     let log = log.as_bytes();
     let mut readers = [Steps::of(core.as_slice(), step), Steps::of(log, usize::MAX)];
-    Ok(read_passing_by_texts(&sifters, &mut readers, limits, Skip::usual()))
+    Ok(read_passing_by_texts(&team, &mut readers, limits, Skip::usual()))
 }
 
 #[test]
 fn the_head_and_few_words_are_kept(rt: HostRuntime) -> Result<(), Fail> {
-    for count in [1, 2, 4] {
+    for workers in [1, 2, 4] {
         for step in [1, 7, 536, 8192] {
-            let passed = pass(&rt, count, step, ENOUGH, Skip::usual())??;
+            let passed = pass(&rt, workers, step, ENOUGH, Skip::usual())??;
             same(&rt, passed.held.len(), 536);
             same(&rt, passed.len, 7656);
             same(&rt, passed.words.len(), 957);
@@ -98,8 +98,8 @@ fn the_head_and_few_words_are_kept(rt: HostRuntime) -> Result<(), Fail> {
 
 #[test]
 fn the_text_of_the_caller_is_kept_in_place_of_the_log(rt: HostRuntime) -> Result<(), Fail> {
-    for (count, step) in [(1, 1), (2, 7), (4, 8192)] {
-        let passed = pass_by_texts(&rt, count, step, ONE_BLOCK, ENOUGH)??;
+    for (workers, step) in [(1, 1), (2, 7), (4, 8192)] {
+        let passed = pass_by_texts(&rt, workers, step, ONE_BLOCK, ENOUGH)??;
         same(&rt, passed.held.len(), 536);
         same(&rt, passed.len, 7656);
         same(&rt, passed.words.kept(), 1);
@@ -156,7 +156,7 @@ fn the_input_that_is_too_long_is_told(rt: HostRuntime) -> Result<(), Fail> {
     Ok(())
 }
 
-/// How many bytes the segment of the wide core has. By two to four sifters it is read in two or three pieces, each long
+/// How many bytes the segment of the wide core has. By two to four workers it is read in two or three pieces, each long
 /// enough for two threads.
 const WIDE: u64 = 0x26_0000;
 
@@ -245,11 +245,11 @@ impl Wide {
         Ok(Wide { rows, core, log })
     }
 
-    /// Ends the test if so many sifters, by reads of so many bytes, keep other words than the rows say.
+    /// Ends the test if so many workers, by reads of so many bytes, keep other words than the rows say.
     fn is_kept<T: Abort + AllocGlobal + Threads + Sync>(
         &self,
         rt: &T,
-        count: u32,
+        workers: u32,
         step: usize,
     ) -> Result<(), Fail> {
         let alloc = rt.alloc();
@@ -258,10 +258,10 @@ impl Wide {
             log: self.log.len() as u64,
             ..ENOUGH
         };
-        let sifters = Sifters { rt, alloc, count };
+        let team = Team { rt, alloc, workers };
         let (core, log) = (self.core.as_slice(), self.log.as_str());
-        let passed = pass_core(&sifters, core, step, log, limits, Skip::usual())?;
-        let case = (count, step);
+        let passed = pass_core(&team, core, step, log, limits, Skip::usual())?;
+        let case = (workers, step);
         same_in(rt, &case, passed.words.len(), WIDE_WORDS);
         same_in(rt, &case, passed.words.kept(), WIDE_KEPT);
         for (place, kept) in &self.rows {
@@ -272,11 +272,11 @@ impl Wide {
 }
 
 #[test]
-fn any_number_of_sifters_keeps_the_same_words(rt: HostRuntime) -> Result<(), Fail> {
+fn any_number_of_workers_keeps_the_same_words(rt: HostRuntime) -> Result<(), Fail> {
     let wide = Wide::new(rt.alloc())?;
-    for count in [1, 2, 3, 4, 7, 64] {
+    for workers in [1, 2, 3, 4, 7, 64] {
         for step in [300_001, usize::MAX] {
-            wide.is_kept(&rt, count, step)?;
+            wide.is_kept(&rt, workers, step)?;
         }
     }
     Ok(())
