@@ -8,7 +8,7 @@ ghost use Rattle.leak_sift.specs.Passed.{IsRange};
 ghost use Rattle.leak_sift.specs.Sifted.{IsNextKept, run_of};
 
 use crate::near::{calm_end, count_passed, is_near};
-use crate::words::{count_outside, word_at};
+use crate::words::{count_outside, count_zeros, word_at};
 use leak_blocks::{Block, Live};
 use std::marker::Model;
 
@@ -124,7 +124,7 @@ impl<'a> Sieve<'a> {
             (place + 8 * k) (number_at w64 bytes.now (8 * k)) ≡ 0 }
     {
         if place < self.calm.0 || self.calm.1 <= place {
-            return 0;
+            return count_zeros(bytes);
         }
         let calm = (self.calm.1 - place).div_ceil(8);
         let most = calm.min(bytes.len() as u64 / 8) as usize;

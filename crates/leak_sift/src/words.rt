@@ -22,6 +22,21 @@ pub(crate) fn word_at(bytes: &[u8], at: usize) -> u64
     word_of(&words[0])
 }
 
+/// How many of the first words are 0.
+pub(crate) fn count_zeros(bytes: &[u8]) -> usize
+    ensures bound { result ≤ length bytes.now / 8 }
+    ensures each { (k : ℕ) → k < result → number_at w64 bytes.now (8 * k) ≡ 0 }
+{
+    let (words, _) = bytes.as_chunks::<8>();
+    let count = bytes.len() / 8;
+    for number in 0..count {
+        if word_of(&words[number]) != 0 {
+            return number;
+        }
+    }
+    count
+}
+
 /// How many of the first words, of so many at most, are 0, below the lowest or above the highest.
 pub(crate) fn count_outside(bytes: &[u8], most: usize, low: u64, high: u64) -> usize
     requires { most ≤ length bytes.now / 8 }

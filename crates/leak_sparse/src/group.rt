@@ -48,6 +48,7 @@ pub(crate) fn lowest_from(bits: u64, from: usize) -> Option<usize>
 }
 
 /// Adds groups of which no word is kept, until there are enough for this many places.
+#[inline]
 pub(crate) fn cover(groups: &mut Vec<Group>, places: usize, before: usize) -> Result<(), AllocError>
     ensures items { groups.new.items ≡
         (if is_ok result then covered groups.old.items places before else groups.old.items) }
