@@ -10,12 +10,36 @@ use leak_blocks::Live;
 use leak_elf::Words;
 use leak_index::Lookup;
 use leak_roots::Roots;
+use leak_scan::{kept_between, lead_somewhere};
 use leak_team::Team;
 use std::alloc::{AllocError, Global};
 use std::thread::{Threads, join};
 
 /// How many ranges a share has at least. Own rule: they take some times as long as the start of a thread.
 const LEAST: usize = 4_096;
+
+/// Whether a range leads to a block.
+fn does_lead<W: Words, L: Lookup>(
+    words: &W,
+    lookup: &L,
+    live: &Live,
+    roots: &Roots,
+    range: (u64, u64),
+) -> bool
+    requires same_blocks { (L.index lookup.now).blocks ≡ live.now.blocks }
+    requires range { IsRange range }
+    ensures { result ≡
+        leads roots.now.skips_links (W.word_at words.now) (L.index lookup.now) range }
+{
+    if !roots.skips_links() {
+        if let Some(kept) = kept_between(words, lookup, range.0, range.1) {
+            return lead_somewhere(lookup, kept);
+        }
+    }
+    of_memory(words, lookup, live, roots, range)
+        .next()
+        .is_some()
+}
 
 /// Those of the ranges that lead to a block.
 fn leading_of<W: Words, L: Lookup>(
@@ -33,8 +57,7 @@ fn leading_of<W: Words, L: Lookup>(
 {
     let mut kept = Vec::new(alloc);
     for range in ranges {
-        let mut led = of_memory(words, lookup, live, roots, *range);
-        if led.next().is_some() {
+        if does_lead(words, lookup, live, roots, *range) {
             kept.push(*range)?;
         }
     }

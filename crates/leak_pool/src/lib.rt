@@ -6,6 +6,7 @@
 //! marked, the blocks that each worker claimed, and the number of rounds. To tell who holds the memory, it lists what each
 //! block leads to by [`list_edges`], as [`Listed`], in whatever room that takes, and what the roots lead to by [`first_blocks`].
 //! Before it marks one core it lets go of the root words that lead nowhere, by [`leading_roots`] and the workers of a `leak_team::Team`.
+//! Where the memory has words without zeros at once, as a sifted core has, that call and the listing take no others.
 //!
 //! [`mark`], which marks one core over its words, and [`mark_alone`], which does so on the caller's thread, are for libraries
 //! and tests. So are gates ([`Gate`]) that hold a worker: the program's is [`Open`].

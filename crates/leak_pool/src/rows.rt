@@ -11,7 +11,7 @@ ghost use Rattle.leak_pool.specs.Scopes.{all_targets};
 use leak_blocks::Block;
 use leak_elf::Words;
 use leak_index::Lookup;
-use leak_scan::{BlockRuns, Targets, list_run};
+use leak_scan::{BlockRuns, Targets, kept_in_block, list_run, list_words};
 use std::alloc::{AllocError, Global};
 use std::thread::{Threads, join};
 
@@ -68,6 +68,9 @@ fn list_block<W: Words, L: Lookup>(
 {
     if let Some(bytes) = runs.of_block(block) {
         return list_run(lookup, bytes, room, targets);
+    }
+    if let Some(kept) = kept_in_block(runs.words, lookup, block) {
+        return list_words(lookup, kept, room, targets);
     }
     let found = Targets::of_block(runs.words, lookup, block);
     list_targets(found, room, targets)

@@ -1,5 +1,5 @@
 -- The words of a block in a run, and what is listed of them.
-use Rattle.std.proofs.Common.{◌≡◌, ℕ, ◌+◌, ◌-◌, ◌*◌, ◌/◌, ◌<◌, ◌≤◌, ◌^◌, refl, ap, sym, ◌∙◌, subst, List, [], ◌∷◌, ◌++◌, length, take, drop, Option, Some, append_assoc, arith}
+use Rattle.std.proofs.Common.{◌≡◌, ℕ, ◌+◌, ◌-◌, ◌*◌, ◌/◌, ◌<◌, ◌≤◌, refl, ap, sym, ◌∙◌, subst, List, [], ◌∷◌, ◌++◌, length, take, drop, Option, Some, append_assoc, arith}
 use Rattle.std.proofs.lemmas.List.{append-nil, length-append, length-drop, length-take, take-take}
 use Rattle.std.specs.Int.{w64}
 use Rattle.std.specs.List.{AllByRecursion}
@@ -10,7 +10,7 @@ use Rattle.leak_index.specs.Hits.{Index, hits_of}
 use Rattle.leak_scan.specs.Positions.{words_in, words_from}
 use Rattle.leak_scan.specs.Targets.{targets_of, block_words}
 use Rattle.leak_scan.proofs.Ranges.{IsAligned, same_range}
-use Rattle.leak_scan.proofs.Runs.{number_drop, run_taken, words_more, words_none}
+use Rattle.leak_scan.proofs.Runs.{number_drop, run_taken}
 use Rattle.leak_scan.proofs.Ahead.{targets_more, targets_none}
 
 -- the words of a block are those of its complete groups of 8 bytes
@@ -31,12 +31,12 @@ run_dropped f from at n run is e k h =
     (is (n + k) (omega arith) ∙ ap (λ (j : ℕ). Some (number_at w64 run j)) eighths ∙ ap (λ (x : ℕ). Some x) (sym (number_drop run (8 * n) (8 * k))))
 
 -- one word more is listed
-pub word_listed : (index : Index) (before now hits bytes later all : List ℕ) (word : ℕ) → words_in bytes ≡ word ∷ words_in later → hits ≡ hits_of index word → now ≡ before ++ hits
-    → before ++ targets_of index (words_in bytes) ≡ all → now ++ targets_of index (words_in later) ≡ all
-word_listed index before now hits bytes later all word more led is whole =
-    ap (λ (l : List ℕ). l ++ targets_of index (words_in later)) is ∙ append_assoc before hits (targets_of index (words_in later))
-    ∙ ap (λ (l : List ℕ). before ++ (l ++ targets_of index (words_in later))) led
-    ∙ ap (λ (l : List ℕ). before ++ l) (sym (targets_more index word (words_in later)) ∙ ap (targets_of index) (sym more)) ∙ whole
+pub word_listed : (index : Index) (before now hits words later all : List ℕ) (word : ℕ) → words ≡ word ∷ later → hits ≡ hits_of index word → now ≡ before ++ hits
+    → before ++ targets_of index words ≡ all → now ++ targets_of index later ≡ all
+word_listed index before now hits words later all word more led is whole =
+    ap (λ (l : List ℕ). l ++ targets_of index later) is ∙ append_assoc before hits (targets_of index later)
+    ∙ ap (λ (l : List ℕ). before ++ (l ++ targets_of index later)) led
+    ∙ ap (λ (l : List ℕ). before ++ l) (sym (targets_more index word later) ∙ ap (targets_of index) (sym more)) ∙ whole
 
 -- what begins a list that begins another begins that too
 pub kept_on : (xs ys zs : List ℕ) → take (length xs) ys ≡ xs → take (length ys) zs ≡ ys → take (length xs) zs ≡ xs
@@ -46,17 +46,17 @@ kept_on xs ys zs first next =
     sym (take-take (length xs) (length ys) zs (omega (arith, l, e))) ∙ ap (λ (l : List ℕ). take (length xs) l) next ∙ first
 
 -- nothing is left
-pub all_listed : (index : Index) (now bytes all : List ℕ) → length bytes < 8 → now ++ targets_of index (words_in bytes) ≡ all → now ≡ all
-all_listed index now bytes all short whole = sym (append-nil now) ∙ ap (λ (l : List ℕ). now ++ l) (sym (ap (targets_of index) (words_none bytes short) ∙ targets_none index)) ∙ whole
+pub all_listed : (index : Index) (now words all : List ℕ) → words ≡ [] → now ++ targets_of index words ≡ all → now ≡ all
+all_listed index now words all none whole = sym (append-nil now) ∙ ap (λ (l : List ℕ). now ++ l) (sym (ap (targets_of index) none ∙ targets_none index)) ∙ whole
 
 -- if the next hits don't fit, not all do
-pub all_over : (index : Index) (before start hits bytes later led : List ℕ) (word room : ℕ) → words_in bytes ≡ word ∷ words_in later → hits ≡ hits_of index word
-    → before ++ targets_of index (words_in bytes) ≡ start ++ led → room < length before + length hits → room < length start + length led
-all_over index before start hits bytes later led word room more is whole over =
+pub all_over : (index : Index) (before start hits words later led : List ℕ) (word room : ℕ) → words ≡ word ∷ later → hits ≡ hits_of index word
+    → before ++ targets_of index words ≡ start ++ led → room < length before + length hits → room < length start + length led
+all_over index before start hits words later led word room more is whole over =
     let len : List ℕ → ℕ = λ (l : List ℕ). length l in
-    let rest : List ℕ = targets_of index (words_in later) in
-    let now : List ℕ = targets_of index (words_in bytes) in
-    let split : now ≡ hits ++ rest = ap (targets_of index) more ∙ targets_more index word (words_in later) ∙ ap (λ (l : List ℕ). l ++ rest) (sym is) in
+    let rest : List ℕ = targets_of index later in
+    let now : List ℕ = targets_of index words in
+    let split : now ≡ hits ++ rest = ap (targets_of index) more ∙ targets_more index word later ∙ ap (λ (l : List ℕ). l ++ rest) (sym is) in
     let a : length now ≡ length hits + length rest = ap len split ∙ length-append hits rest in
     let b : length before + length now ≡ length start + length led = sym (length-append before now) ∙ ap len whole ∙ length-append start led in
     omega arith

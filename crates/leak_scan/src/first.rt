@@ -1,5 +1,5 @@
 //! The first word of a list that leads to a block.
-ghost use Rattle.std.specs.Prelude.{◌≡◌, ◌++◌, ◌≤◌, [], drop, length};
+ghost use Rattle.std.specs.Prelude.{◌≡◌, ◌++◌, ◌≤◌, [], drop, length, nat_lt};
 ghost use Rattle.std.specs.Int.{w64};
 ghost use Rattle.leak_elf.specs.Fields.{number_at};
 ghost use Rattle.leak_index.specs.Hits.{hits_in};
@@ -8,6 +8,17 @@ ghost use Rattle.leak_scan.specs.Positions.{words_in};
 
 use byteorder::{ByteOrder, LittleEndian};
 use leak_index::{Hits, Lookup};
+
+/// Whether a word of the list leads to a block.
+pub fn lead_somewhere<L: Lookup>(lookup: &L, words: &[u64]) -> bool
+    ensures { result ≡ nat_lt 0 (length (targets_of (L.index lookup.now) words.now)) }
+{
+    let (hits, _) = first_of_list(lookup, words);
+    match hits {
+        Hits::Zero => false,
+        _ => true,
+    }
+}
 
 /// The blocks that the first such word leads to, and the words after it.
 pub(crate) fn first_of_list<'a, L: Lookup>(lookup: &L, words: &'a [u64]) -> (Hits, &'a [u64])

@@ -11,8 +11,9 @@
 //! the memory can.
 //!
 //! Who lists what all blocks lead to takes the bytes of one block after another from [`BlockRuns`], and what their words lead
-//! to from [`list_run`]. [`heads`] tells which of the leaked blocks no other leads to. [`Pages::numbers`] and [`Pages::has`] are for
-//! libraries and tests.
+//! to from [`list_run`]. If the memory has the words without zeros, [`kept_in_block`] gives those of a block and [`kept_between`]
+//! those of a range, as long as 0 leads nowhere; [`list_words`] lists what they lead to, and [`lead_somewhere`] asks whether they do.
+//! [`heads`] tells which of the leaked blocks no other leads to. [`Pages::numbers`] and [`Pages::has`] are for libraries and tests.
 //!
 //! The words of a block are the aligned ones that lie completely inside it, as bdwgc scans an object. Pages of 4096
 //! addresses are those of x86-64. The contracts don't say how much is read.
@@ -21,6 +22,7 @@
 mod block_runs;
 mod first;
 mod head_blocks;
+mod kept_words;
 mod laws;
 mod pages;
 mod position;
@@ -31,8 +33,10 @@ mod scan;
 mod targets;
 
 pub use block_runs::BlockRuns;
+pub use first::lead_somewhere;
 pub use head_blocks::heads;
+pub use kept_words::{kept_between, kept_in_block};
 pub use laws::{ranges_lead_less, targets_are_blocks, worked_heads, worked_targets};
 pub use pages::Pages;
-pub use run_targets::list_run;
+pub use run_targets::{list_run, list_words};
 pub use targets::Targets;

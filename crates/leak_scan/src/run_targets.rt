@@ -39,6 +39,32 @@ pub fn list_run<L: Lookup>(
     Ok(true)
 }
 
+/// Appends what the words of a list lead to, unless that makes more than `room`.
+pub fn list_words<L: Lookup>(
+    lookup: &L,
+    words: &[u64],
+    room: usize,
+    targets: &mut Vec<u32>,
+) -> Result<bool, AllocError>
+    requires few { length (L.index lookup.now).blocks < 2 ^ 32 }
+    requires within { length targets.old.items ≤ room }
+    ensures within { length targets.new.items ≤ room }
+    ensures kept { take (length targets.old.items) targets.new.items ≡ targets.old.items }
+    ensures listed { IfOk result (λ fits. IsTrue fits →
+        targets.new.items ≡ targets.old.items ++ targets_of (L.index lookup.now) words.now) }
+    ensures over { let led = targets_of (L.index lookup.now) words.now in
+        IfOk result (λ fits. IsFalse fits → room < length targets.old.items + length led) }
+{
+    // (a law, for the proof: each hit is the number of a block)
+    hits_are_blocks();
+    for word in words {
+        if !list_hits(lookup.hits(*word), room, targets)? {
+            return Ok(false);
+        }
+    }
+    Ok(true)
+}
+
 /// Appends the blocks that a word leads to.
 fn list_hits(hits: Hits, room: usize, targets: &mut Vec<u32>) -> Result<bool, AllocError>
     requires small { AllByRecursion (λ block. block < 2 ^ 32) (hits_in hits) }

@@ -19,7 +19,7 @@ mod words;
 mod many;
 
 // A core of which the head alone is held.
-mod passed;
+pub(crate) mod passed;
 
 // What a refusal prints.
 mod texts;

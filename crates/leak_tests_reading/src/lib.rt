@@ -107,6 +107,10 @@ mod scan_roots;
 #[cfg(test)]
 mod scan_counted;
 
+// Scans of a core that keeps few words behind its head.
+#[cfg(test)]
+mod scan_sifted;
+
 // Mark bits and lists of claims.
 #[cfg(test)]
 mod marks;

@@ -47,7 +47,7 @@ impl<'a> Rest for Behind<'a> {
 }
 
 /// The head of the core. Ends the test if there is none.
-fn head<'a>(rt: &impl Abort, core: &'a [u8]) -> &'a [u8]
+pub(crate) fn head<'a>(rt: &impl Abort, core: &'a [u8]) -> &'a [u8]
     ensures head { IsHead result.now }
     ensures size { length result.now ≤ length core.now }
 {
