@@ -15,6 +15,7 @@ pub mod BuildLemmas
 pub mod GatherLemmas
 pub mod SmallLemmas
 pub mod ReadLemmas
+pub mod ReadWindowLemmas
 pub mod RunLemmas
 pub mod PartLemmas
 pub mod PlacedLemmas

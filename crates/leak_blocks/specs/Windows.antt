@@ -3,7 +3,7 @@ use Rattle.std.specs.Prelude.{◌≡◌, ℕ, ◌+◌, ◌<◌, ◌≤◌, Bool,
 use Rattle.leak_mtrace.specs.declared.line.Line.{Line}
 use Rattle.leak_mtrace.specs.declared.error.LogError.{LogError}
 use Rattle.leak_mtrace.specs.declared.error.LogError.TheVariants.{BadLine, Extent, NoMemory}
-use Rattle.leak_mtrace.specs.Log.{placed, whole_len_of, IsFirstFault}
+use Rattle.leak_mtrace.specs.Log.{Whole, placed, whole_len_of, IsFirstFault}
 use Rattle.leak_mtrace.specs.Reading.{Reading, HasRead}
 use Rattle.leak_mtrace.specs.Parts.{AreLinesOf, moved, later_fault}
 use Rattle.leak_blocks.specs.declared.block.Block.{Block}
@@ -68,3 +68,17 @@ pub record HaveComeOn (reading : Reading) (from : LogPlace) (before after : Ongo
   pub read : HasRead reading lines
   pub replayed : (earlier : List Line) → from.lines ≡ length earlier → IsOngoingAfter earlier before → IsOngoingAfter (earlier ++ moved from.bytes lines) after
   pub allocated : all_blocks after ≡ all_blocks before ++ allocated_by from.lines (moved from.bytes lines)
+
+-- the replay has gone over these lines, before which come so many others
+pub record GoesOver (count : ℕ) (lines : List Line) (before after : OngoingReplay) : Type 0 where
+  pub replayed : (earlier : List Line) → count ≡ length earlier → IsOngoingAfter earlier before → IsOngoingAfter (earlier ++ lines) after
+  pub allocated : all_blocks after ≡ all_blocks before ++ allocated_by count lines
+
+-- the bytes are complete lines, and were read as this
+abbrev pub IsPart : List ℕ → Whole → Type 0
+IsPart bytes read = AreLinesOf bytes read.lines × (read.whole_len ≡ length bytes)
+
+-- the complete lines of the window were read part by part, as these
+abbrev pub AreReadInParts : List ℕ → List Whole → Type 0
+AreReadInParts window [] = whole_len_of window ≡ 0
+AreReadInParts window (x ∷ xs) = (part rest : List ℕ) × (window ≡ part ++ rest) × IsPart part x × AreReadInParts rest xs

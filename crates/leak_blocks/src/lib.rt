@@ -9,8 +9,9 @@
 //!
 //! A log can be gone over window by window, so that it need not be held: a [`Stage`] is between two arenas,
 //! [`Stage::begin`] goes on with an arena, [`OngoingReplay::go_on`] goes over the complete lines of a window until the arena
-//! is nearly full, and [`OngoingReplay::end`] leaves it. [`OngoingReplay::allocated`] has the blocks of the new allocations,
-//! so that the texts of their callers can be kept before the window's bytes are let go.
+//! is nearly full, and [`OngoingReplay::end`] leaves it. [`OngoingReplay::go_on_read`] goes over all lines of a window that
+//! were read before. [`OngoingReplay::allocated`] has the blocks of the new allocations, so that the texts of their callers
+//! can be kept before the window's bytes are let go.
 //!
 //! glibc's mtrace says what a line reports; which line ends which block is own rule, stated in `specs/Live.antt` over pairs
 //! of lines. [`Live`] keeps callers as ranges of the log's bytes, and no bytes. [`Live::with_callers`] puts other ranges in their
@@ -24,6 +25,7 @@ mod laws;
 mod live;
 mod numbers;
 mod ongoing_replay;
+mod read_window;
 mod replaying;
 mod small;
 mod stage;

@@ -156,7 +156,14 @@ impl OngoingReplay<'_> {
     /// Whether the arena of the map may have too few bytes left for the next line, or as many allocations came as it had
     /// room for: most of these may have ended without a node.
     pub(crate) fn is_full(&self, arena: &Bump) -> bool {
-        self.allocated.len() >= self.most || arena.chunk_capacity() < node_bytes(self.run.len())
+        !self.has_room_for(arena, 0)
+    }
+
+    /// Whether so many lines can be gone over before few of the arena's bytes are left, if each allocates a block. It is a
+    /// guess: without room lines only take further memory.
+    pub fn has_room_for(&self, arena: &Bump, lines: usize) -> bool {
+        self.allocated.len().saturating_add(lines) < self.most
+            && arena.chunk_capacity() >= node_bytes(self.run.len().saturating_add(lines))
     }
 
     /// Leaves the arena.

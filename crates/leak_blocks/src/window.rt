@@ -19,7 +19,7 @@ pub struct LogPlace {
 }
 
 /// The line with its caller as a range of the log, in which so many bytes come before the window.
-fn moved(line: Line, bytes: usize) -> Line
+pub(crate) fn moved(line: Line, bytes: usize) -> Line
     requires room { bytes + line.caller.1 < 2 ^ 64 }
     requires order { line.caller.0 ≤ line.caller.1 }
     ensures { result ≡ placed bytes line }

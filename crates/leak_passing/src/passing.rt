@@ -88,7 +88,7 @@ fn begin_and_replay<T: Threads + Sync, R: ReadCalls>(
         Err(fault) => return Err(PassingFault::Core(fault)),
     };
     match replay_reading(
-        alloc,
+        team,
         &mut readers[1],
         limits.log,
         limits.log_size,

@@ -19,6 +19,7 @@ mod whole;
 mod why;
 
 use answer::Answer;
+use leak_team::Team;
 use std::alloc::AllocError;
 use std::env;
 use std::process::ExitCode;
@@ -152,13 +153,18 @@ fn answer_of<R: AllocGlobal + Threads + Sync>(rt: &R, name: &str) -> Option<Answ
 /// The same of what replays a log that is not held, and of the room for words.
 fn answer_of_passing<R: AllocGlobal + Threads + Sync>(rt: &R, name: &str) -> Option<Answer> {
     let alloc = rt.alloc();
+    let team = Team {
+        rt,
+        alloc,
+        workers: 1,
+    };
     match name {
         "TextTable::number" => passing::numbers(alloc),
         "gather" => passing::gathered(alloc),
         "SparseWords::reserve" => passing::room(alloc),
-        "replay_reading" => passing::replayed(alloc),
-        "replay_reading_spans" => passing::replayed_spans(alloc),
-        "replay_reading_turns" => passing::replayed_turns(alloc),
+        "replay_reading" => passing::replayed(&team),
+        "replay_reading_spans" => passing::replayed_spans(&team),
+        "replay_reading_turns" => passing::replayed_turns(&team),
         _ => answer_of_roots(rt, name),
     }
 }

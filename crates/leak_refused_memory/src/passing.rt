@@ -7,9 +7,11 @@ use leak_find::ReadFault;
 use leak_mtrace::LogError;
 use leak_replaying::{LogByTexts, replay_reading};
 use leak_sparse::SparseWords;
+use leak_team::Team;
 use leak_texts::{TextTable, gather};
 use std::alloc::Global;
 use std::io::Cursor;
+use std::thread::Threads;
 
 /// `TextTable::number` of three texts, of which the first is met again. After want of memory the table has the texts
 /// that it had.
@@ -66,33 +68,36 @@ fn answer_of(by_texts: &LogByTexts, blocks: usize, ranges: usize, texts: usize) 
 }
 
 /// `replay_reading` of four blocks of three callers.
-pub(crate) fn replayed(alloc: Global) -> Option<Answer> {
+pub(crate) fn replayed<R: Threads + Sync>(team: &Team<'_, R>) -> Option<Answer> {
+    let alloc = team.alloc;
     let mut reader = Cursor::new(FOUR_CALLERS.as_bytes().to_vec(alloc).ok()?);
     let size = FOUR_CALLERS.len() as u64;
-    match replay_reading(alloc, &mut reader, 1000, size, false) {
+    match replay_reading(team, &mut reader, 1000, size, false) {
         Ok(by_texts) => Some(answer_of(&by_texts, 4, 0, 3)),
         Err(fault) => Some(Answer::of_refusal(fault == ReadFault::NoMemory)),
     }
 }
 
 /// `replay_reading` of a log of which one block is live, with spans, and without the log's size.
-pub(crate) fn replayed_spans(alloc: Global) -> Option<Answer> {
+pub(crate) fn replayed_spans<R: Threads + Sync>(team: &Team<'_, R>) -> Option<Answer> {
+    let alloc = team.alloc;
     let mut reader = Cursor::new(GIVEN_BACK.as_bytes().to_vec(alloc).ok()?);
-    match replay_reading(alloc, &mut reader, 1000, 0, true) {
+    match replay_reading(team, &mut reader, 1000, 0, true) {
         Ok(by_texts) => Some(answer_of(&by_texts, 1, 1, 1)),
         Err(fault) => Some(Answer::of_refusal(fault == ReadFault::NoMemory)),
     }
 }
 
 /// `replay_reading` of a log that is said to be small, of whose 400 allocations all but the last few are let go.
-pub(crate) fn replayed_turns(alloc: Global) -> Option<Answer> {
+pub(crate) fn replayed_turns<R: Threads + Sync>(team: &Team<'_, R>) -> Option<Answer> {
+    let alloc = team.alloc;
     let mut log = Vec::new(alloc);
     for _ in 0..400 {
         log.extend_from_slice(b"- 0x10100\n@ ./a.out:[0x401136] + 0x10100 0x20\n")
             .ok()?;
     }
     let mut reader = Cursor::new(log);
-    match replay_reading(alloc, &mut reader, 20_000, 1, false) {
+    match replay_reading(team, &mut reader, 20_000, 1, false) {
         Ok(by_texts) => Some(answer_of(&by_texts, 1, 0, 1)),
         Err(fault) => Some(Answer::of_refusal(fault == ReadFault::NoMemory)),
     }

@@ -4,3 +4,4 @@ pub mod NumberingLemmas
 pub mod ReplayingLemmas
 pub mod UnderwayLemmas
 pub mod FinishingLemmas
+pub mod SharingLemmas

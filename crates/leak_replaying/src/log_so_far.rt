@@ -11,16 +11,16 @@ ghost use Rattle.leak_replaying.specs.Numbering.{IsBehind, NumbersMore};
 ghost use Rattle.leak_replaying.specs.Replaying.{HasPassed, HoldsMore, PassesOn, ReadsOn, left};
 
 use crate::numbering::{drop_front, number_callers};
+use crate::sharing::go_on;
 use bumpalo::Bump;
 use leak_blocks::{Block, LogPlace, OngoingReplay, Stage};
 use leak_mtrace::LogError;
 use leak_streams::{ReadCalls, ReadFault, Reading};
+use leak_team::Team;
 use leak_texts::{TextTable, gather};
 use memchr::memchr;
 use std::alloc::{AllocError, Global};
-
-/// How many bytes of a log are read at a time: 256 KiB. Own rule: they and their copy fit a processor's second cache.
-const PIECE: usize = 262_144;
+use std::thread::Threads;
 
 /// How many lines that allocate nothing come at least before allocations are let go. Own rule: an allocation takes some
 /// 100 bytes with its node, and letting go takes time for each live block.
@@ -81,8 +81,12 @@ fn read_pieces<R: ReadCalls>(
 }
 
 impl LogSoFar {
-    /// Before the first read.
-    pub(crate) fn begin<R: ReadCalls>(alloc: Global, spans: bool) -> Result<LogSoFar, AllocError>
+    /// Before the first read, of so many bytes at a time.
+    pub(crate) fn begin<R: ReadCalls>(
+        alloc: Global,
+        spans: bool,
+        piece: usize,
+    ) -> Result<LogSoFar, AllocError>
         ensures spans { IfOk result (λ log. log.spans ≡ spans) }
         ensures come { IfOk result (λ log. (limit : ℕ) (reader : R)
             → HasComeTo R.calls limit reader reader log.reading []) }
@@ -92,7 +96,7 @@ impl LogSoFar {
     {
         Ok(LogSoFar {
             spans,
-            reading: Reading::begin::<R>(alloc, PIECE)?,
+            reading: Reading::begin::<R>(alloc, piece)?,
             ended: false,
             window: Vec::new(alloc),
             at: LogPlace { bytes: 0, lines: 0 },
@@ -138,8 +142,9 @@ impl LogSoFar {
 
     /// Goes over the complete lines that are held, and numbers their callers' texts, until few of the arena's bytes are
     /// left. Tells whether there may be more lines.
-    pub(crate) fn go_over(
+    pub(crate) fn go_over<T: Threads + Sync>(
         &mut self,
+        team: &Team<'_, T>,
         ongoing: &mut OngoingReplay<'_>,
         arena: &Bump,
     ) -> Result<bool, LogError>
@@ -159,7 +164,7 @@ impl LogSoFar {
         ensures spans { self.new.spans ≡ self.old.spans }
     {
         let before = ongoing.allocated().len();
-        let (at, more) = ongoing.go_on(arena, self.window.as_slice(), self.at)?;
+        let (at, more) = go_on(team, ongoing, arena, self.window.as_slice(), self.at)?;
         let len = at.bytes - self.at.bytes;
         self.number_front(&ongoing.allocated()[before..], len)?;
         drop_front(&mut self.window, len);

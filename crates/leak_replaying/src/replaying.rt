@@ -12,11 +12,14 @@ ghost use Rattle.leak_replaying.specs.Replaying.{HasReadTo, IsAtEnd, IsBetween, 
 
 use crate::finishing::{LogByTexts, finish_or_none};
 use crate::log_so_far::LogSoFar;
+use crate::sharing::piece_size;
 use bumpalo::Bump;
 use leak_blocks::{OngoingReplay, Stage, guess_allocations};
 use leak_mtrace::LogError;
 use leak_streams::{ReadCalls, ReadFault};
+use leak_team::Team;
 use std::alloc::{AllocError, Global};
+use std::thread::Threads;
 
 /// Why a replay ended before the log did.
 #[derive(Clone, Copy)]
@@ -54,8 +57,9 @@ impl From<ReadFault> for Stop {
 impl LogSoFar {
     /// Reads on and goes over the lines until few of the arena's bytes are left, many allocations may have ended, or the
     /// log ends. Tells whether there may be more lines.
-    fn fill<R: ReadCalls>(
+    fn fill<T: Threads + Sync, R: ReadCalls>(
         &mut self,
+        team: &Team<'_, T>,
         ongoing: &mut OngoingReplay<'_>,
         arena: &Bump,
         reader: &mut R,
@@ -76,7 +80,7 @@ impl LogSoFar {
     {
         let before = self.at.bytes;
         loop {
-            if self.go_over(ongoing, arena)? {
+            if self.go_over(team, ongoing, arena)? {
                 return Ok(true);
             }
             if self.ended {
@@ -114,8 +118,8 @@ fn arena_for(stage: &Stage, alloc: Global, guess: usize) -> Result<Bump, AllocEr
 
 /// Goes on with a replay until an arena is full, or the log has ended, and lets go of allocations that ended. Tells whether
 /// there may be more lines.
-fn replay_on<R: ReadCalls>(
-    alloc: Global,
+fn replay_on<T: Threads + Sync, R: ReadCalls>(
+    team: &Team<'_, T>,
     guess: usize,
     stage: Stage,
     log: &mut LogSoFar,
@@ -135,16 +139,16 @@ fn replay_on<R: ReadCalls>(
         → IsBetween R.calls limit first reader.old log.old lines stage
         → IsStoppedBy R.calls limit first reader.new log.new stop) }
 {
-    let arena = arena_for(&stage, alloc, guess)?;
+    let arena = arena_for(&stage, team.alloc, guess)?;
     let mut ongoing = stage.begin(&arena)?;
-    let more = log.fill(&mut ongoing, &arena, reader, limit)?;
+    let more = log.fill(team, &mut ongoing, &arena, reader, limit)?;
     let stage = ongoing.end()?;
-    Ok((log.let_go(alloc, stage, more)?, more))
+    Ok((log.let_go(team.alloc, stage, more)?, more))
 }
 
 /// Replays a log while it is read from the reader, to its end.
-fn replay_log<R: ReadCalls>(
-    alloc: Global,
+fn replay_log<T: Threads + Sync, R: ReadCalls>(
+    team: &Team<'_, T>,
     log: &mut LogSoFar,
     reader: &mut R,
     limit: u64,
@@ -163,10 +167,10 @@ fn replay_log<R: ReadCalls>(
 {
     log.read_lines(reader, limit)?;
     let guess = guess_allocations(log.window.as_slice(), size as usize);
-    let mut stage = first_stage(alloc, guess)?;
+    let mut stage = first_stage(team.alloc, guess)?;
     let mut more = true;
     while more {
-        let (later, may_go_on) = replay_on(alloc, guess, stage, log, reader, limit)?;
+        let (later, may_go_on) = replay_on(team, guess, stage, log, reader, limit)?;
         stage = later;
         more = may_go_on;
     }
@@ -195,13 +199,13 @@ fn read_rest<R: ReadCalls>(log: LogSoFar, reader: &mut R, limit: u64) -> Result<
 /// Reads a log and replays it, and keeps the texts of its live blocks' callers, but none of its bytes. `spans` says whether
 /// the addresses of small allocations are wanted, as far as they are outside the live blocks. The log is said to have
 /// `size` bytes, which changes only time and memory. A fault of the log refuses nothing here, nor does want of memory for
-/// its blocks: the log is read to its end all the same.
+/// its blocks: the log is read to its end all the same. How many workers the team has changes nothing of what is read.
 ///
 /// # Errors
 ///
 /// Why the log was not read to its end.
-pub fn replay_reading<R: ReadCalls>(
-    alloc: Global,
+pub fn replay_reading<T: Threads + Sync, R: ReadCalls>(
+    team: &Team<'_, T>,
     reader: &mut R,
     limit: u64,
     size: u64,
@@ -211,8 +215,9 @@ pub fn replay_reading<R: ReadCalls>(
         × IsReadWhole R.calls limit reader.old reader.new log) }
     ensures refused { IfErr result (IsGivenUp R.calls limit reader.old reader.new) }
 {
-    let mut log = LogSoFar::begin::<R>(alloc, spans)?;
-    match replay_log(alloc, &mut log, reader, limit, size) {
+    let alloc = team.alloc;
+    let mut log = LogSoFar::begin::<R>(alloc, spans, piece_size(team.workers))?;
+    match replay_log(team, &mut log, reader, limit, size) {
         Ok(stage) => Ok(finish_or_none(alloc, stage, log)),
         Err(Stop::Read(fault)) => Err(fault),
         Err(Stop::Log(error)) => {

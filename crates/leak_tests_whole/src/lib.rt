@@ -88,6 +88,10 @@ mod readers;
 #[cfg(test)]
 mod replaying;
 
+// The lines of a log are read side by side.
+#[cfg(test)]
+mod sharing;
+
 // A core and its log in one pass.
 #[cfg(test)]
 mod passing;

@@ -7,8 +7,10 @@ use leak_blocks::{Block, replay_bytes, replay_with_spans};
 use leak_mtrace::LogError;
 use leak_replaying::{LogByTexts, Numbers, replay_reading, widened};
 use leak_streams::ReadFault;
-use std::alloc::Global;
+use leak_team::Team;
+use std::alloc::{AllocGlobal, Global};
 use std::test::Fail;
+use std::thread::Threads;
 
 /// How many bytes a read gives at most.
 const STEPS: [usize; 5] = [1, 2, 3, 7, usize::MAX];
@@ -48,16 +50,36 @@ const LIVE: [Block; 3] = [
 /// The line of the one block without its line feed.
 const TORN: &[u8] = b"@ ./a.out:[0x401136] + 0x10100 0x20";
 
+/// The caller alone.
+fn one_worker<T: AllocGlobal + Threads + Sync>(rt: &T) -> Team<'_, T> {
+    Team {
+        rt,
+        alloc: rt.alloc(),
+        workers: 1,
+    }
+}
+
 /// Reads a log, so many bytes at a time.
-fn replay(alloc: Global, log: &[u8], step: usize, spans: bool) -> Result<LogByTexts, ReadFault> {
+fn replay<T: AllocGlobal + Threads + Sync>(
+    rt: &T,
+    log: &[u8],
+    step: usize,
+    spans: bool,
+) -> Result<LogByTexts, ReadFault> {
     let size = log.len() as u64;
-    replay_reading(alloc, &mut Steps::of(log, step), size, size, spans)
+    replay_reading(
+        &one_worker(rt),
+        &mut Steps::of(log, step),
+        size,
+        size,
+        spans,
+    )
 }
 
 #[test]
 fn reads_of_any_length_give_the_blocks_and_their_texts(rt: HostRuntime) -> Result<(), Fail> {
     for step in STEPS {
-        let LogByTexts { read, texts } = replay(rt.alloc(), LINES, step, false)?;
+        let LogByTexts { read, texts } = replay(&rt, LINES, step, false)?;
         let (replayed, spans) = read?;
         same_in(&rt, &step, replayed.live.blocks(), LIVE.as_slice());
         same_in(&rt, &step, replayed.live.unknown(), 1);
@@ -78,7 +100,7 @@ fn spans_are_those_of_the_whole_log(rt: HostRuntime) -> Result<(), Fail> {
     let (_replayed, wanted) = replay_with_spans(rt.alloc(), LINES)?;
     same(&rt, wanted.ranges().len(), 1);
     for step in STEPS {
-        let LogByTexts { read, texts: _ } = replay(rt.alloc(), LINES, step, true)?;
+        let LogByTexts { read, texts: _ } = replay(&rt, LINES, step, true)?;
         let (_replayed, spans) = read?;
         same_in(&rt, &step, spans.ranges(), wanted.ranges());
     }
@@ -100,7 +122,7 @@ fn a_log_with_a_fault_is_read_to_its_end(rt: HostRuntime) -> Result<(), Fail> {
         for step in STEPS {
             let mut source = Source::slow(rt.alloc(), log, step)?;
             let LogByTexts { read, texts } = replay_reading(
-                rt.alloc(),
+                &one_worker(&rt),
                 &mut source,
                 size,
                 size,
@@ -119,7 +141,7 @@ fn a_log_that_is_too_long_is_told_before_its_fault(rt: HostRuntime) -> Result<()
     let log = b"no line\n- 0x10100\n";
     for step in STEPS {
         let mut reader = Steps::of(log, step);
-        let read = replay_reading(rt.alloc(), &mut reader, 17, 18, false);
+        let read = replay_reading(&one_worker(&rt), &mut reader, 17, 18, false);
         same_in(&rt, &step, read.err(), Some(ReadFault::TooLong));
     }
     Ok(())
@@ -129,7 +151,7 @@ fn a_log_that_is_too_long_is_told_before_its_fault(rt: HostRuntime) -> Result<()
 fn a_log_without_a_line_has_no_block(rt: HostRuntime) -> Result<(), Fail> {
     for (log, count) in [(b"".as_slice(), 0), (TORN, 1)] {
         for step in STEPS {
-            let LogByTexts { read, texts } = replay(rt.alloc(), log, step, true)?;
+            let LogByTexts { read, texts } = replay(&rt, log, step, true)?;
             let (replayed, _spans) = read?;
             same_in(&rt, &step, replayed.live.blocks().len(), 0);
             same_in(&rt, &step, (replayed.torn, replayed.whole_len), (count, 0));
@@ -145,7 +167,7 @@ fn a_line_may_be_longer_than_a_piece(rt: HostRuntime) -> Result<(), Fail> {
     log.push(b'\n')?;
     log.extend_from_slice(ONE_BLOCK.as_bytes())?;
     for step in [70_001, usize::MAX] {
-        let LogByTexts { read, texts } = replay(rt.alloc(), log.as_slice(), step, false)?;
+        let LogByTexts { read, texts } = replay(&rt, log.as_slice(), step, false)?;
         let (replayed, _spans) = read?;
         let block = Block {
             line: 2,
@@ -186,7 +208,7 @@ fn a_long_log_has_the_blocks_of_the_whole_and_each_its_text(rt: HostRuntime) -> 
         let mut reader = Steps::of(bytes, step);
         let limit = bytes.len() as u64;
         let LogByTexts { read, texts } = replay_reading(
-            rt.alloc(),
+            &one_worker(&rt),
             &mut reader,
             limit,
             size,
@@ -230,7 +252,13 @@ fn a_log_whose_allocations_end_has_the_blocks_of_the_whole(rt: HostRuntime) -> R
     for step in [1021, usize::MAX] {
         let mut reader = Steps::of(bytes, step);
         let limit = bytes.len() as u64;
-        let LogByTexts { read, texts } = replay_reading(rt.alloc(), &mut reader, limit, 1, false)?;
+        let LogByTexts { read, texts } = replay_reading(
+            &one_worker(&rt),
+            &mut reader,
+            limit,
+            1,
+            false,
+        )?;
         let (replayed, _spans) = read?;
         same_in(&rt, &step, replayed.live.blocks(), wanted.live.blocks());
         same_in(&rt, &step, replayed.live.unknown(), 0);

@@ -25,8 +25,8 @@ loop-more-init g c = (
   c.in_ok-read_lines.ensures.ok.spans,
 )
 
-pub replay_on-requires : goal.replay_on-requires
-replay_on-requires g c =
+pub replay_on-requires-after_bounds : goal.replay_on-requires-after_bounds
+replay_on-requires-after_bounds g c κs within =
     let now = c.loop-more.invariant.0 c.requires.begun.0 c.requires.begun.1 in
     (c.requires.begun.0, now.0, now.1)
 

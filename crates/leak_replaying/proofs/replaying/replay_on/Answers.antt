@@ -16,8 +16,8 @@ returns-in_err-ongoing-clause-stopped g c =
     let p = err_from_is_err_and c.from_residual-in_err-ongoing.result c.from_residual-in_err-ongoing.ensures.1 in
     rw (p.1, p.2) (λ first lines is. no_memory _ _ _ _ _ _ _ is.0)
 
-pub fill-requires : goal.fill-requires
-fill-requires g c =
+pub fill-requires-after_bounds : goal.fill-requires-after_bounds
+fill-requires-after_bounds g c κs within =
     (c.requires.0, c.requires.1, (same_blocks _ _ _ _ _ _ _ _ c.in_ok-ongoing.ensures.allocated c.requires.2.0, c.in_ok-ongoing.ensures.after c.requires.1 c.requires.2.1))
 
 pub returns-in_err-more-clause-stopped : goal.returns-in_err-more-clause-stopped

@@ -14,7 +14,7 @@ returns-in_err-log-clause-refused g c =
     rw (p.1, p.2) (none_read _ _ _)
 
 pub replay_log-requires-clause-begun : goal.replay_log-requires-clause-begun
-replay_log-requires-clause-begun g c =
+replay_log-requires-clause-begun g c κs within =
     (c.args.reader.now, begun _ _ _ _ c.in_ok-log.ensures.open c.in_ok-log.ensures.empty (c.in_ok-log.ensures.come c.args.limit c.args.reader.now) c.in_ok-log.ensures.none)
 
 pub finish_or_none-requires : goal.finish_or_none-requires

@@ -6,12 +6,12 @@ use Rattle.leak_replaying.proofs.UnderwayLemmas.{come, gone_over, is_given_up, i
 use Rattle.leak_replaying.proofs.log_so_far.LogSoFar.fill.Goals as goal
 
 pub go_over-requires-clause-fits : goal.go_over-requires-clause-fits
-go_over-requires-clause-fits g c =
+go_over-requires-clause-fits g c κs within =
     let now = c.loop-self.invariant.0 c.requires.0 c.requires.1 c.requires.2 in
     window_fits g.R.ReadCalls.calls c.args.limit c.requires.0 c.loop-self.reader c.loop-self.self now.0 c.loop-self.ongoing now.1 c.ranges.limit.fits
 
 pub go_over-requires-clause-so_far : goal.go_over-requires-clause-so_far
-go_over-requires-clause-so_far g c =
+go_over-requires-clause-so_far g c κs within =
     let now = c.loop-self.invariant.0 c.requires.0 c.requires.1 c.requires.2 in
     (now.1.0.passed, now.0, now.1.0.has, now.1.1)
 
