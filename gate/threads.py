@@ -162,10 +162,11 @@ def of_stacks():
 
 
 def of_long():
-    """One block, in a core of 2 MiB and 16 KiB. It is read in pieces of 512 KiB for each worker, of which each worker, the
-    caller among them, sifts a part; the caller alone sifts the last 16 KiB. So two workers read two pieces before these, three
-    read one of 1.5 MiB and the rest, and four read one of 2 MiB. Sixteen or more read pieces of 8 MiB, and 64 cut the core
-    into 16 parts of 128 KiB. The first round has some 516 items, so each worker has some. A core that is held is not sifted."""
+    """One block, in a core of 2 MiB and 16 KiB. It is read in pieces of 512 KiB for each worker. Of the first one each worker,
+    the caller among them, sifts a part; of those behind it each but the caller, which reads on, if they are three or more; and
+    the caller alone sifts the last 16 KiB. So two workers read two pieces before these, three read one of 1.5 MiB and the rest,
+    and four read one of 2 MiB. Sixteen or more read pieces of 8 MiB, and 64 cut the core into 16 parts of 128 KiB. The first
+    round has some 516 items, so each worker has some. A core that is held is not sifted."""
     return [
         ("a long core by a worker alone", "--workers 1", 0),
         ("a long core by two workers", "--workers 2", 2 * 1 + 1),

@@ -14,8 +14,7 @@ use Rattle.leak_search.specs.declared.error.FindError.TheVariants.{NoMemory as N
 use Rattle.leak_search.specs.declared.found.Found.{Found}
 use Rattle.leak_search.specs.declared.rules.Rules.{Rules}
 use Rattle.leak_passing.specs.Passed.{AreTwo, IsPassedByTexts, IsPassingFault, OfPassedByTexts, IsReadOrNot, IsReadSomeWay, Pair, Passes, readers_of}
-use Rattle.leak_passing.specs.declared.fault.PassingFault.{PassingFault}
-use Rattle.leak_passing.specs.declared.fault.PassingFault.TheVariants.{Core, Log}
+use Rattle.leak_passing.specs.declared.fault.PassingFault.TheVariants.{Core, Log, NoMemory as NoMemoryToKeep}
 use Rattle.leak_passing.specs.declared.passed.PassedByTexts.{PassedByTexts}
 use Rattle.leak_passing.specs.declared.passing.Limits.{Limits}
 use Rattle.leak_find.specs.Answers.{Finds, IsFaultOf, IsUntold, Tells}
@@ -26,7 +25,7 @@ use Rattle.leak_find.specs.declared.fault.RunFault.TheVariants.{Read, Find, NoBl
 use Rattle.leak_find.specs.declared.task.Task.{Task}
 use Rattle.leak_find.specs.declared.task.Task.TheVariants.{Search}
 use Rattle.leak_find.specs.Inputs.{AreRead, IsReadRefusal}
-use Rattle.leak_find.specs.Passing.{AreFirstTwo, IsPassRefusal, IsReadOn, IsReadToEnd, IsStoppedOf, IsUnreadBy, at_passing, limits_in, passes_core}
+use Rattle.leak_find.specs.Passing.{AreFirstTwo, IsPassRefusal, IsReadOn, IsReadToEnd, IsStoppedOf, IsUnreadBy, limits_in, passes_core}
 use Rattle.leak_find.specs.Run.{IsUnanswered, OfInputs}
 use Rattle.leak_find.specs.Streams.{Source, by_reads}
 use Rattle.leak_find.specs.Tasks.{limit_at, limit_beside}
@@ -88,14 +87,33 @@ module _ {R : Type 0} (calls : Calls R) (o : Options) (limits : Limits) (core_is
       first_two (Passes calls (limits_in o) IsOf) before mid
       (weaker (Passes calls limits IsOf) (Passes calls (limits_in o) IsOf) (take 2 before) mid (λ was is. limited calls o limits IsOf was is core_is log_is) two)
 
-  pub passed_not : (fault : PassingFault) (before mid : List R) → AreTwo (take 2 before) mid (IsPassingFault calls limits fault)
-      → IsPassRefusal (by_reads calls) (limit_beside o) before (mid ++ drop 2 before) (at_passing fault)
-  passed_not (Core f) before mid two =
+  -- one of them was not read to its end
+  pub core_not_passed : (f : ReadFault) (before mid : List R) → AreTwo (take 2 before) mid (IsPassingFault calls limits (Core f))
+      → IsPassRefusal (by_reads calls) (limit_beside o) before (mid ++ drop 2 before) (Read 1 f)
+  core_not_passed f before mid two =
       first_two (IsStoppedOf (by_reads calls) (limit_beside o) 1 f) before mid
       (weaker (IsPassingFault calls limits (Core f)) (IsStoppedOf (by_reads calls) (limit_beside o) 1 f) (take 2 before) mid (core_stopped f) two)
-  passed_not (Log f) before mid two =
+
+  pub log_not_passed : (f : ReadFault) (before mid : List R) → AreTwo (take 2 before) mid (IsPassingFault calls limits (Log f))
+      → IsPassRefusal (by_reads calls) (limit_beside o) before (mid ++ drop 2 before) (Read 2 f)
+  log_not_passed f before mid two =
       first_two (IsStoppedOf (by_reads calls) (limit_beside o) 2 f) before mid
       (weaker (IsPassingFault calls limits (Log f)) (IsStoppedOf (by_reads calls) (limit_beside o) 2 f) (take 2 before) mid (log_stopped f) two)
+
+  -- both were, and nothing was kept
+  none_kept : (IsOf : List ℕ → List ℕ → Type 0) → ((core log : List ℕ) → IsOf core log) → (was is : Pair R) → IsPassingFault calls limits NoMemoryToKeep was is → Passes calls limits IsOf was is
+  none_kept IsOf always was is both = record {
+    core = both.0.0;
+    log = both.1.0;
+    core_read = both.0.1;
+    log_read = both.1.1;
+    passed_is = always both.0.0 both.1.0;
+  }
+
+  pub passed_short : (IsOf : List ℕ → List ℕ → Type 0) → ((core log : List ℕ) → IsOf core log) → (before mid : List R)
+      → AreTwo (take 2 before) mid (IsPassingFault calls limits NoMemoryToKeep) → AreFirstTwo before (mid ++ drop 2 before) (Passes calls (limits_in o) IsOf)
+  passed_short IsOf always before mid two =
+      passed_both IsOf before mid (weaker (IsPassingFault calls limits NoMemoryToKeep) (Passes calls limits IsOf) (take 2 before) mid (none_kept IsOf always) two)
 
 -- both were read to their ends
 pub both_read : {R : Type 0} (calls : Calls R) (o : Options) (IsOf : List ℕ → List ℕ → Type 0) (limit : ℕ → ℕ) (before after : List R)

@@ -4,8 +4,6 @@ use Rattle.std.specs.Prelude.{◌≡◌, ◌⊎◌, ℕ, ◌<◌, Bool, true, fa
 use Rattle.leak_streams.specs.declared.fault.ReadFault.{ReadFault}
 use Rattle.leak_streams.specs.declared.fault.ReadFault.TheVariants.{NoMemory}
 use Rattle.leak_passing.specs.Passed.{Pair, readers_of}
-use Rattle.leak_passing.specs.declared.fault.PassingFault.{PassingFault}
-use Rattle.leak_passing.specs.declared.fault.PassingFault.TheVariants.{Core, Log}
 use Rattle.leak_passing.specs.declared.passing.Limits.{Limits}
 use Rattle.leak_request.specs.declared.options.Options.{Options}
 use Rattle.leak_find.specs.declared.fault.RunFault.{RunFault}
@@ -70,8 +68,3 @@ IsPassRefusal source limit before after (Read n e) = AreFirstTwo before after (I
 IsPassRefusal source limit before after (Find e) = ⊥
 IsPassRefusal source limit before after (NoBlock a) = ⊥
 IsPassRefusal source limit before after (Write f) = ⊥
-
--- the refusal of a run whose core and log were not read: the core's reader is the first, and the log's the second
-abbrev pub at_passing : PassingFault → RunFault
-at_passing (Core f) = Read 1 f
-at_passing (Log f) = Read 2 f

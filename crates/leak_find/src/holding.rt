@@ -22,7 +22,7 @@ use leak_holder_search::{Holding, Progress};
 use leak_holders::{Question, Workers};
 use leak_passing::{Passed, find_passed_held, find_passed_holders};
 use leak_request::Options;
-use leak_search::WhyError;
+use leak_search::{FindError, WhyError};
 use leak_streams::ReadCalls;
 use std::alloc::Global;
 use std::thread::Threads;
@@ -103,6 +103,9 @@ pub(crate) fn holding<T: Threads + Sync, P: Progress, R: ReadCalls>(
 {
     let passed = read_passed(context, readers, sizes, options)?;
     let earlier = read_earlier(context.alloc, readers, sizes, options.log_limit)?;
+    let Some(passed) = passed else {
+        return Err(RunFault::Find(FindError::NoMemory));
+    };
     match held(context, options, question, passed, bytes(&earlier)) {
         Ok(held) => Ok(without_leaks(held.report, held.signs)),
         Err(error) => Err(at_why(error)),

@@ -1,8 +1,8 @@
 //! A core that is passed: of its bytes only what a search needs is kept.
 
-ghost use Rattle.std.specs.Prelude.{◌≡◌, ◌≤◌, false, length, IfOk, IfErr};
+ghost use Rattle.std.specs.Prelude.{◌≡◌, ◌≤◌, false, length, IfOk, IfErr, IfSome};
 ghost use Rattle.leak_passing.specs.Passed.{IsPassed, IsPassedByTexts, Passes};
-ghost use Rattle.leak_find.specs.Passing.{AreFirstTwo, IsPassRefusal, at_passing, limits_in};
+ghost use Rattle.leak_find.specs.Passing.{AreFirstTwo, IsPassRefusal, limits_in};
 ghost use Rattle.leak_find.specs.Run.{HasAnswered, IsUnanswered};
 ghost use Rattle.leak_find.specs.Streams.{by_reads};
 ghost use Rattle.leak_find.specs.Tasks.{limit_beside};
@@ -17,20 +17,10 @@ use leak_passing::{
 };
 use leak_pool::Open;
 use leak_request::Options;
-use leak_search::Workers;
+use leak_search::{FindError, Workers};
 use leak_streams::ReadCalls;
 use leak_team::Team;
 use std::thread::Threads;
-
-/// The refusal of a run whose core and log were not read.
-fn at_passing(fault: PassingFault) -> RunFault
-    ensures { result ≡ at_passing fault }
-{
-    match fault {
-        PassingFault::Core(fault) => RunFault::Read(1, fault),
-        PassingFault::Log(fault) => RunFault::Read(2, fault),
-    }
-}
 
 /// How many bytes a core and its log may have by the options. The sizes are those that the readers are said to have;
 /// one that is missing counts as 0.
@@ -61,17 +51,17 @@ fn team<'a, T: Threads + Sync, P: Progress>(
 }
 
 /// Reads a core and its log in one pass, of the first two readers. The sizes are those that the readers are said to
-/// have.
+/// have. If both were read to their ends, and there was no memory for what is kept, it is `None`.
 pub(crate) fn read_passed<T: Threads + Sync, P: Progress, R: ReadCalls>(
     context: &Context<'_, T, P>,
     readers: &mut [R],
     sizes: &[u64],
     options: &Options,
-) -> Result<Passed, RunFault>
+) -> Result<Option<Passed>, RunFault>
     requires { 2 ≤ length readers.old }
     ensures ok { IfOk result (λ passed. AreFirstTwo readers.old readers.new
         (Passes R.calls (limits_in options.now)
-        (λ core log. IsPassed core log options.now.skip passed))) }
+        (λ core log. IfSome passed (IsPassed core log options.now.skip)))) }
     ensures refused { IfErr result (IsPassRefusal (by_reads R.calls)
         (limit_beside options.now) readers.old readers.new) }
     ensures count { length readers.new ≡ length readers.old }
@@ -79,8 +69,10 @@ pub(crate) fn read_passed<T: Threads + Sync, P: Progress, R: ReadCalls>(
     let limits = limits(options, sizes);
     let first = &mut readers[..2];
     match read_passing(&team(context, options), first, limits, options.skip) {
-        Ok(passed) => Ok(passed),
-        Err(fault) => Err(at_passing(fault)),
+        Ok(passed) => Ok(Some(passed)),
+        Err(PassingFault::Core(fault)) => Err(RunFault::Read(1, fault)),
+        Err(PassingFault::Log(fault)) => Err(RunFault::Read(2, fault)),
+        Err(PassingFault::NoMemory) => Ok(None),
     }
 }
 
@@ -90,11 +82,11 @@ fn read_passed_by_texts<T: Threads + Sync, P: Progress, R: ReadCalls>(
     readers: &mut [R],
     sizes: &[u64],
     options: &Options,
-) -> Result<PassedByTexts, RunFault>
+) -> Result<Option<PassedByTexts>, RunFault>
     requires { 2 ≤ length readers.old }
     ensures ok { IfOk result (λ passed. AreFirstTwo readers.old readers.new
         (Passes R.calls (limits_in options.now)
-        (λ core log. IsPassedByTexts core log options.now.skip passed))) }
+        (λ core log. IfSome passed (IsPassedByTexts core log options.now.skip)))) }
     ensures refused { IfErr result (IsPassRefusal (by_reads R.calls)
         (limit_beside options.now) readers.old readers.new) }
     ensures count { length readers.new ≡ length readers.old }
@@ -102,8 +94,10 @@ fn read_passed_by_texts<T: Threads + Sync, P: Progress, R: ReadCalls>(
     let limits = limits(options, sizes);
     let first = &mut readers[..2];
     match read_passing_by_texts(&team(context, options), first, limits, options.skip) {
-        Ok(passed) => Ok(passed),
-        Err(fault) => Err(at_passing(fault)),
+        Ok(passed) => Ok(Some(passed)),
+        Err(PassingFault::Core(unread)) => Err(RunFault::Read(1, unread)),
+        Err(PassingFault::Log(unread)) => Err(RunFault::Read(2, unread)),
+        Err(PassingFault::NoMemory) => Ok(None),
     }
 }
 
@@ -121,7 +115,9 @@ pub(crate) fn search_passing<T: Threads + Sync, P: Progress, R: ReadCalls>(
     ensures refused { IfErr result
         (IsUnanswered (by_reads R.calls) (Search options.now) readers.old readers.new) }
 {
-    let passed = read_passed_by_texts(context, readers, sizes, options)?;
+    let Some(passed) = read_passed_by_texts(context, readers, sizes, options)? else {
+        return Err(RunFault::Find(FindError::NoMemory));
+    };
     let workers = Workers {
         rt: context.rt,
         plan: options.plan,

@@ -2,6 +2,7 @@
 pub mod HeadLemmas
 pub mod ByteLemmas
 pub mod PieceLemmas
+pub mod AheadLemmas
 pub mod KeptLemmas
 pub mod LogLemmas
 pub mod ReaderLemmas

@@ -7,9 +7,12 @@ use Rattle.leak_streams.specs.Reads.{Calls, IsReadWhole, IsGivenUp}
 use Rattle.leak_passing.specs.declared.begun.Begun.{Begun}
 use Rattle.leak_passing.specs.declared.begun.Begun.TheVariants.{Whole, Head}
 use Rattle.leak_passing.specs.declared.fault.PassingFault.TheVariants.{Core, Log}
+use Rattle.leak_passing.specs.declared.fault.RestFault.{RestFault}
+use Rattle.leak_passing.specs.declared.fault.RestFault.TheVariants.{Read, Short}
 use Rattle.leak_passing.specs.declared.passing.Limits.{Limits}
 use Rattle.leak_passing.specs.Begun.{IsBegun}
 use Rattle.leak_passing.specs.Kept.{IsKept, Keeps}
+use Rattle.leak_passing.specs.Rest.{IsRestFault, at_rest}
 use Rattle.leak_passing.specs.Passed.{AreTwo, BeginsBoth, IsPassingFault, IsReadSomeWay, Passes}
 
 -- the first reader was read some way, and the second not
@@ -65,15 +68,22 @@ module _ {R : Type 0} (calls : Calls R) (limits : Limits) (skip : Skip) where
     pub core_begun : IsBegun calls limits.core two.was.core (get_or mid 0 h) skip begun
     core_begun = rw (two.are) two.holds.core_begun
 
-    -- then it was given up,
-    pub rest_refused : (k : R) (f : ReadFault) → ((first : R) → IsBegun calls limits.core first (get_or mid 0 h) skip begun → IsGivenUp calls limits.core first k f)
-        → AreTwo readers (set mid 0 k) (IsPassingFault calls limits (Core f))
-    rest_refused k f up = record {
+    -- then nothing was kept of it,
+    pub rest_refused : (k : R) (f : RestFault) → ((first : R) → IsBegun calls limits.core first (get_or mid 0 h) skip begun → IsRestFault calls limits.core first k f)
+        → AreTwo readers (set mid 0 k) (IsPassingFault calls limits (at_rest f))
+    rest_refused k (Read f) up = record {
       was = two.was;
       is = record { core = k; log = two.is.log };
       were = two.were;
       are = rw (two.are) refl;
       holds = (up two.was.core core_begun, inr (log, two.holds.log_read));
+    }
+    rest_refused k Short up = record {
+      was = two.was;
+      is = record { core = k; log = two.is.log };
+      were = two.were;
+      are = rw (two.are) refl;
+      holds = (up two.was.core core_begun, (log, two.holds.log_read));
     }
 
     -- or both were read to their ends

@@ -1,6 +1,7 @@
 -- The definitions of this crate, by subject.
 pub mod Underway
 pub mod Begun
+pub mod Rest
 pub mod Sifting
 pub mod Kept
 pub mod ByTexts

@@ -6,7 +6,7 @@ use Rattle.leak_roots.specs.declared.skip.Skip.{Skip}
 use Rattle.leak_search.specs.Inputs.{IsReadLog}
 use Rattle.leak_streams.specs.Reads.{Calls, ReadSoFar, HasCome, IsReadWhole, IsGivenUp}
 use Rattle.leak_passing.specs.declared.fault.PassingFault.{PassingFault}
-use Rattle.leak_passing.specs.declared.fault.PassingFault.TheVariants.{Core, Log}
+use Rattle.leak_passing.specs.declared.fault.PassingFault.TheVariants.{Core, Log, NoMemory as NoMemoryToKeep}
 use Rattle.leak_passing.specs.declared.begun.Begun.{Begun}
 use Rattle.leak_passing.specs.declared.passed.Passed.{Passed}
 use Rattle.leak_passing.specs.declared.passed.PassedByTexts.{PassedByTexts}
@@ -69,12 +69,18 @@ abbrev pub IsReadSomeWay : {R : Type 0} → Calls R → ℕ → R → R → Type
 IsReadSomeWay calls limit first last =
     ((bytes : List ℕ) × IsReadWhole calls limit first last bytes) ⊎ ((now : ReadSoFar) × HasCome calls limit first last now)
 
--- why a core and its log were not read: one of them was given up by the fault
+-- an input was read to its end
+abbrev pub IsRead : {R : Type 0} → Calls R → ℕ → R → R → Type 0
+IsRead calls limit first last = (bytes : List ℕ) × IsReadWhole calls limit first last bytes
+
+-- why a core and its log were not passed: one of them was given up by the fault, or both were read to their ends
 abbrev pub IsPassingFault : {R : Type 0} → Calls R → Limits → PassingFault → Pair R → Pair R → Type 0
 IsPassingFault calls limits (Core f) was is =
     IsGivenUp calls limits.core was.core is.core f × IsReadOrNot calls limits.log was.log is.log
 IsPassingFault calls limits (Log f) was is =
     IsGivenUp calls limits.log was.log is.log f × IsReadSomeWay calls limits.core was.core is.core
+IsPassingFault calls limits NoMemoryToKeep was is =
+    IsRead calls limits.core was.core is.core × IsRead calls limits.log was.log is.log
 
 -- this is so of each core and log of which this was read
 abbrev pub OfPassed : Skip → Passed → (List ℕ → List ℕ → Type 0) → Type 0

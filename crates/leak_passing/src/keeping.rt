@@ -1,18 +1,19 @@
 //! What is kept of a core, by the log as it was read.
 
 ghost use Rattle.std.specs.Prelude.{◌≡◌, [], IfOk, IfErr};
-ghost use Rattle.leak_streams.specs.Reads.{IsGivenUp};
 ghost use Rattle.leak_passing.specs.Begun.{IsAtHead, IsBegun};
 ghost use Rattle.leak_passing.specs.Kept.{Keeps};
+ghost use Rattle.leak_passing.specs.Rest.{IsRestFault};
 ghost use Rattle.leak_replaying.specs.Texts.{blocks_of};
 
 use crate::begun::{Begun, Front};
+use crate::fault::RestFault;
 use crate::sifted::sift_core;
 use leak_blocks::{Live, Replayed, SmallSpans, replay_bytes};
 use leak_mtrace::LogError;
 use leak_roots::Skip;
 use leak_sparse::SparseWords;
-use leak_streams::{ReadCalls, ReadFault};
+use leak_streams::ReadCalls;
 use leak_team::Team;
 use std::alloc::{AllocError, Global};
 use std::thread::Threads;
@@ -35,7 +36,7 @@ fn sift_by_log<T: Threads + Sync, R: ReadCalls>(
     limit: u64,
     read: &Result<(Replayed, SmallSpans), LogError>,
     skip: Skip,
-) -> Result<(Vec<u8>, SparseWords, u64), ReadFault>
+) -> Result<(Vec<u8>, SparseWords, u64), RestFault>
     requires { (first : R) × IsAtHead R.calls limit first reader.old skip front }
     ensures ok { IfOk result (λ kept. (first : R)
         → IsAtHead R.calls limit first reader.old skip front
@@ -43,7 +44,7 @@ fn sift_by_log<T: Threads + Sync, R: ReadCalls>(
         kept.0.items kept.1 kept.2) }
     ensures refused { IfErr result (λ f. (first : R)
         → IsAtHead R.calls limit first reader.old skip front
-        → IsGivenUp R.calls limit first reader.new f) }
+        → IsRestFault R.calls limit first reader.new f) }
 {
     match read {
         Ok(parts) => sift_core(team, front, reader, limit, &parts.0.live, skip),
@@ -62,7 +63,7 @@ pub(crate) fn keep_core<T: Threads + Sync, R: ReadCalls>(
     limit: u64,
     read: &Result<(Replayed, SmallSpans), LogError>,
     skip: Skip,
-) -> Result<(Vec<u8>, SparseWords, u64), ReadFault>
+) -> Result<(Vec<u8>, SparseWords, u64), RestFault>
     requires { (first : R) × IsBegun R.calls limit first reader.old skip begun }
     ensures ok { IfOk result (λ kept. (first : R)
         → IsBegun R.calls limit first reader.old skip begun
@@ -70,7 +71,7 @@ pub(crate) fn keep_core<T: Threads + Sync, R: ReadCalls>(
         kept.0.items kept.1 kept.2) }
     ensures refused { IfErr result (λ f. (first : R)
         → IsBegun R.calls limit first reader.old skip begun
-        → IsGivenUp R.calls limit first reader.new f) }
+        → IsRestFault R.calls limit first reader.new f) }
 {
     match begun {
         Begun::Whole(bytes) => Ok((bytes, SparseWords::new(team.alloc), 0)),

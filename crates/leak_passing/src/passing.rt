@@ -1,26 +1,21 @@
 //! A core and its log are read in one pass.
 
-ghost use Rattle.std.specs.Prelude.{◌≡◌, ◌*◌, ℕ, List, min, max, length, IfOk, IfErr};
+ghost use Rattle.std.specs.Prelude.{◌≡◌, ℕ, List, length, IfOk, IfErr};
 ghost use Rattle.leak_replaying.specs.Outcome.{IsOfLog};
 ghost use Rattle.leak_passing.specs.Passed.{AreTwo, BeginsBoth, IsPassed, IsPassedByTexts, IsPassingFault, Passes};
+ghost use Rattle.leak_passing.specs.Rest.{at_rest};
 
 use crate::begun::{Begun, begin_core};
-use crate::fault::PassingFault;
+use crate::fault::{PassingFault, RestFault};
 use crate::keeping::keep_core;
 use crate::passed::{Passed, PassedByTexts};
+use crate::pieces::piece_size;
 use leak_replaying::{LogByTexts, replay_reading};
 use leak_roots::Skip;
 use leak_search::read_log;
 use leak_streams::{ReadCalls, read_sized};
 use leak_team::Team;
 use std::thread::Threads;
-
-/// How many bytes of a piece are for each worker: 512 KiB. Own rule: they fit a processor's second cache, and take some
-/// times as long as the start of a thread.
-const PART: usize = 524_288;
-
-/// How many bytes a piece has at most, since all of it is held: 8 MiB.
-const MOST_PIECE: usize = 8_388_608;
 
 /// How many bytes a core and its log may have.
 #[derive(Clone, Copy, Debug, PartialEq, Eq)]
@@ -32,13 +27,6 @@ pub struct Limits {
     /// How many bytes the core is said to have, or 0, as of the log. These sizes change only time and memory.
     pub core_size: u64,
     pub log_size: u64,
-}
-
-/// How many bytes of a core are read at a time, if so many workers sift them.
-fn piece_size(count: u32) -> usize
-    ensures { result ≡ min (max 1 count * PART) MOST_PIECE }
-{
-    (count.max(1) as usize * PART).min(MOST_PIECE)
 }
 
 /// Begins to read a core, and reads its log.
@@ -99,6 +87,16 @@ fn begin_and_replay<T: Threads + Sync, R: ReadCalls>(
     }
 }
 
+/// The fault of a passing whose log was read to its end, by that of the rest of its core.
+fn at_rest(fault: RestFault) -> PassingFault
+    ensures { result ≡ at_rest fault }
+{
+    match fault {
+        RestFault::Read(fault) => PassingFault::Core(fault),
+        RestFault::Short => PassingFault::NoMemory,
+    }
+}
+
 /// Reads a core and its log, in one pass over each: the core's head, the log, and then the rest of the core, of which
 /// only the words are kept that a search needs. The first reader has the core, the second the log. How many workers the
 /// team has changes nothing of what is read and kept.
@@ -109,7 +107,8 @@ fn begin_and_replay<T: Threads + Sync, R: ReadCalls>(
 /// # Errors
 ///
 /// `Core` if the core is not read to its end, or if there is no memory for what is kept of it; `Log` if the log is not
-/// read to its end. The first that comes, in the order of the reading.
+/// read to its end. The first that comes, in the order of the reading. `NoMemory` if there is no memory for what is kept
+/// of a core whose end was found by then.
 pub fn read_passing<T: Threads + Sync, R: ReadCalls>(
     team: &Team<'_, T>,
     readers: &mut [R],
@@ -132,7 +131,7 @@ pub fn read_passing<T: Threads + Sync, R: ReadCalls>(
             log,
             read,
         }),
-        Err(fault) => Err(PassingFault::Core(fault)),
+        Err(fault) => Err(at_rest(fault)),
     }
 }
 
@@ -164,6 +163,6 @@ pub fn read_passing_by_texts<T: Threads + Sync, R: ReadCalls>(
             texts,
             read,
         }),
-        Err(fault) => Err(PassingFault::Core(fault)),
+        Err(fault) => Err(at_rest(fault)),
     }
 }

@@ -1,29 +1,24 @@
 //! A core is sifted behind its head, as it passes.
 
 ghost use Rattle.std.specs.Prelude.{◌≡◌, ℕ, List, IfOk, IfErr, OnOk};
-ghost use Rattle.leak_streams.specs.Pieces.{GivesUp, HasComeTo};
-ghost use Rattle.leak_streams.specs.Reads.{IsGivenUp};
-ghost use Rattle.leak_alike.specs.SiftedCores.{AreBytes};
+ghost use Rattle.leak_streams.specs.Pieces.{HasComeTo};
 ghost use Rattle.leak_passing.specs.Begun.{IsAtHead};
 ghost use Rattle.leak_passing.specs.Kept.{Keeps};
+ghost use Rattle.leak_passing.specs.Rest.{IsRestFault, LosesRest};
 ghost use Rattle.leak_passing.specs.Sifting.{SiftsRest};
 
+use crate::ahead::Ahead;
 use crate::begun::Front;
+use crate::fault::RestFault;
+use crate::pieces::{are_bytes, piece_size};
 use leak_blocks::Live;
 use leak_elf::Segment;
 use leak_roots::Skip;
 use leak_sift::{Sieve, Sifting};
 use leak_sparse::SparseWords;
-use leak_streams::{ReadCalls, ReadFault, Reading};
+use leak_streams::{ReadCalls, Reading};
 use leak_team::Team;
 use std::thread::Threads;
-
-/// A law, for proofs: each number in a slice of bytes is below 256.
-fn are_bytes(bytes: &[u8])
-    ensures { AreBytes bytes.now }
-{
-    let _bytes = bytes;
-}
 
 /// How many words are kept of a core for each block, if glibc made its heap: a guess, by which room is made for them.
 const KEPT_EACH: usize = 5;
@@ -53,22 +48,19 @@ fn make_room(sifting: &mut Sifting<'_>, words: usize, blocks: usize)
 /// Sifts the pieces of a core that are left.
 fn sift_pieces<T: Threads + Sync, R: ReadCalls>(
     team: &Team<'_, T>,
-    mut reading: Reading,
+    reading: Reading,
     reader: &mut R,
     limit: u64,
     sifting: &mut Sifting<'_>,
-) -> Result<(), ReadFault>
+) -> Result<(), RestFault>
     requires { (first : R) × (bytes : List ℕ)
         × HasComeTo R.calls limit first reader.old reading bytes }
     ensures ok { OnOk result ((more : List ℕ)
         × SiftsRest R.calls limit reader.old reading sifting.old reader.new sifting.new more) }
-    ensures refused { IfErr result (GivesUp R.calls limit reader.old reading reader.new) }
+    ensures refused { IfErr result (LosesRest R.calls limit reader.old reading reader.new) }
 {
-    'pieces: while reading.next_piece(reader, limit)? {
-        let piece = reading.piece();
-        are_bytes(piece);
-        sifting.take(team, piece)?;
-    }
+    let mut ahead = Ahead::new(team.alloc, reading, piece_size(team.workers))?;
+    'pieces: while ahead.sift_and_read(team, sifting, reader, limit)? {}
     Ok(())
 }
 
@@ -81,14 +73,14 @@ pub(crate) fn sift_core<T: Threads + Sync, R: ReadCalls>(
     limit: u64,
     live: &Live,
     skip: Skip,
-) -> Result<(Vec<u8>, SparseWords, u64), ReadFault>
+) -> Result<(Vec<u8>, SparseWords, u64), RestFault>
     requires { (first : R) × IsAtHead R.calls limit first reader.old skip front }
     ensures ok { IfOk result (λ kept. (first : R)
         → IsAtHead R.calls limit first reader.old skip front
         → Keeps R.calls limit first reader.new skip live.now.blocks kept.0.items kept.1 kept.2) }
     ensures refused { IfErr result (λ f. (first : R)
         → IsAtHead R.calls limit first reader.old skip front
-        → IsGivenUp R.calls limit first reader.new f) }
+        → IsRestFault R.calls limit first reader.new f) }
 {
     let Front {
         reading,

@@ -1,6 +1,6 @@
 //! Reading an input piece by piece.
 
-ghost use Rattle.std.specs.Prelude.{◌≡◌, ◌≢◌, ◌↔◌, ℕ, ◌+◌, ◌<◌, ◌≤◌, List, [], length, false, IsTrue, IfOk, IfErr};
+ghost use Rattle.std.specs.Prelude.{◌≡◌, ◌≢◌, ◌↔◌, ℕ, ◌+◌, ◌<◌, ◌≤◌, List, [], length, take, false, IsTrue, IfOk, IfErr};
 ghost use Rattle.leak_streams.specs.Reads.{Follows, HasCome};
 ghost use Rattle.leak_streams.specs.Pieces.{nothing_read, HasComeTo, TakesPiece, FindsEnd, GivesUp, ComesTo};
 
@@ -78,6 +78,31 @@ impl Reading {
         self.count = read_retrying(reader, buffer, left, &mut self.interruptions)?;
         self.taken += self.count as u64;
         Ok(self.count > 0)
+    }
+
+    /// Reads the next piece into the front of the caller's buffer, and tells how many bytes it has: none if the input has ended. At
+    /// most `limit` bytes are taken in all. The reading's own piece stays.
+    pub fn next_into<R: ReadCalls>(
+        &mut self,
+        reader: &mut R,
+        limit: u64,
+        buffer: &mut [u8],
+    ) -> Result<usize, ReadFault>
+        requires room { 0 < length buffer.old }
+        ensures more { IfOk result (λ count. 0 < count → TakesPiece R.calls limit reader.old self.old reader.new
+            (record self.new { piece = take count buffer.new })) }
+        ensures end { IfOk result (λ count. count ≡ 0
+            → FindsEnd R.calls limit reader.old self.old reader.new) }
+        ensures refused { IfErr result (GivesUp R.calls limit reader.old self.old reader.new) }
+        ensures memory { IfErr result (λ f. f ≢ ReadFault.NoMemory) }
+        ensures within { IfOk result (λ count. count ≤ length buffer.new) }
+        ensures piece { self.new.piece ≡ self.old.piece }
+        ensures taken { IfOk result (λ count. self.new.taken ≡ self.old.taken + count) }
+    {
+        let left = limit.saturating_sub(self.taken);
+        let count = read_retrying(reader, buffer, left, &mut self.interruptions)?;
+        self.taken += count as u64;
+        Ok(count)
     }
 
     /// The bytes that the last call of `next_piece` read: none at the end of the input, after a fault, and before the first.

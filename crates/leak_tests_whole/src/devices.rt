@@ -3,8 +3,6 @@
 ghost use Rattle.std.specs.Prelude.{IfOk, IsFalse};
 
 use crate::comparisons::{same, same_in};
-use crate::examples::{HELD, LOST, ONE_BLOCK};
-use crate::fakes::{Giver, Sink, Source, Taker, Turn};
 use crate::samples::{Part, core_of};
 use crate::searches::run_over;
 use leak_elf::ElfError;
@@ -12,6 +10,8 @@ use leak_find::{Context, FindError, Options, ReadFault, RunFault, Skip, Task, ru
 use leak_index::Reading;
 use leak_pool::Plan;
 use leak_streams::WriteFault;
+use leak_tests_inputs::examples::{HELD, LOST, ONE_BLOCK};
+use leak_tests_inputs::fakes::{Giver, Sink, Source, Taker, Turn};
 use std::test::Fail;
 
 /// How the runs search, with the limits of core and log.

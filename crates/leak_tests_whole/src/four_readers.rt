@@ -3,8 +3,6 @@
 ghost use Rattle.std.specs.Prelude.{IfOk, IsTrue};
 
 use crate::comparisons::{same, same_in};
-use crate::examples::ONE_BLOCK;
-use crate::fakes::{Sink, Source};
 use crate::samples::{Part, core_of};
 use crate::searches::run_over;
 use leak_elf::ElfError;
@@ -12,6 +10,8 @@ use leak_find::{Context, FindError, Options, ReadFault, RunFault, Skip, Task, ru
 use leak_index::Reading;
 use leak_pool::Plan;
 use leak_streams::WriteFault;
+use leak_tests_inputs::examples::ONE_BLOCK;
+use leak_tests_inputs::fakes::{Sink, Source};
 use std::alloc::Global;
 use std::test::Fail;
 

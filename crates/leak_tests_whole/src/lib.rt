@@ -16,10 +16,6 @@ mod samples;
 #[cfg(test)]
 mod searches;
 
-// The log of the one block, and its reports.
-#[cfg(test)]
-mod examples;
-
 // Examples of a hundred blocks, which loops write.
 #[cfg(test)]
 mod hundreds;
@@ -84,33 +80,21 @@ mod signs;
 #[cfg(test)]
 mod readers;
 
-// A log that is replayed while it is read.
-#[cfg(test)]
-mod replaying;
-
-// The lines of a log are read side by side.
-#[cfg(test)]
-mod sharing;
-
 // A core and its log in one pass.
 #[cfg(test)]
 mod passing;
+
+// A core that is read on while its last piece is sifted.
+#[cfg(test)]
+mod reading_ahead;
 
 // Runs that ask who holds the memory.
 #[cfg(test)]
 mod holding;
 
-// Reading an input piece by piece.
-#[cfg(test)]
-mod pieces;
-
 // Readers and writers that fail or are interrupted between their bytes.
 #[cfg(test)]
 mod turns;
-
-// Readers and writers that are slow, fail or are interrupted.
-#[cfg(test)]
-mod fakes;
 
 // Inputs larger than the samples.
 #[cfg(test)]

@@ -1,7 +1,7 @@
 //! The table of examples of two cores: cores, logs and the blocks that are claimed.
 
-use crate::examples::ONE_BLOCK;
 use crate::samples::Part;
+use leak_tests_inputs::examples::ONE_BLOCK;
 
 /// The log of two blocks.
 const TWO_BLOCKS: &str = "+ 0x10100 0x20\n+ 0x10200 0x10\n";

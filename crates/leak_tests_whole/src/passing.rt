@@ -1,8 +1,6 @@
 //! A core and its log are read in one pass.
 
 use crate::comparisons::{same, same_in};
-use crate::examples::ONE_BLOCK;
-use crate::fakes::Steps;
 use crate::samples::{core_of, set};
 use leak_elf::core_k;
 use leak_find::{ReadFault, Skip};
@@ -10,6 +8,8 @@ use leak_passing::{
     Limits, Numbers, Passed, PassedByTexts, PassingFault, read_passing, read_passing_by_texts,
 };
 use leak_team::Team;
+use leak_tests_inputs::examples::ONE_BLOCK;
+use leak_tests_inputs::fakes::Steps;
 use std::alloc::Global;
 use std::process::Abort;
 use std::test::Fail;
@@ -231,14 +231,14 @@ fn wide_core(alloc: Global, rows: &[(usize, u64)]) -> Result<Vec<u8>, Fail> {
 
 /// The wide core and its log.
 #[derive(Drop)]
-struct Wide {
-    rows: Vec<(usize, u64)>,
-    core: Vec<u8>,
-    log: String,
+pub(crate) struct Wide {
+    pub(crate) rows: Vec<(usize, u64)>,
+    pub(crate) core: Vec<u8>,
+    pub(crate) log: String,
 }
 
 impl Wide {
-    fn new(alloc: Global) -> Result<Wide, Fail> {
+    pub(crate) fn new(alloc: Global) -> Result<Wide, Fail> {
         let rows = wide_rows(alloc)?;
         let core = wide_core(alloc, rows.as_slice())?;
         let log = wide_log(alloc)?;

@@ -1,9 +1,9 @@
 //! Reading an input to its end, from readers that are long, fail or are interrupted.
 
 use crate::comparisons::{same, same_in};
-use crate::examples::ONE_BLOCK;
-use crate::fakes::{Endless, Source};
 use leak_find::{ReadFault, read_all};
+use leak_tests_inputs::examples::ONE_BLOCK;
+use leak_tests_inputs::fakes::{Endless, Source};
 use std::test::Fail;
 
 #[test]

@@ -1,12 +1,12 @@
 //! Cores, notes and logs that are cut short.
 
 use crate::comparisons::same_in;
-use crate::examples::{NOTHING, ONE_BLOCK};
 use crate::samples::{Part, core_of};
 use crate::searches::{alone, reports};
 use leak_elf::ElfError;
 use leak_find::FindError;
 use leak_notes::NoteError;
+use leak_tests_inputs::examples::{NOTHING, ONE_BLOCK};
 use std::alloc::Global;
 use std::test::Fail;
 

@@ -3,12 +3,12 @@
 ghost use Rattle.std.specs.Prelude.{IfOk, false, ◌≡◌};
 
 use crate::comparisons::same;
-use crate::examples::{LOST, ONE_BLOCK};
-use crate::fakes::{Sink, Taker, Turn};
 use crate::samples::core_of;
 use leak_find::{Context, Options, RunFault, Skip, Task, run};
 use leak_index::Reading;
 use leak_pool::Plan;
+use leak_tests_inputs::examples::{LOST, ONE_BLOCK};
+use leak_tests_inputs::fakes::{Sink, Taker, Turn};
 use std::test::Fail;
 
 /// One core is searched, its heap is glibc's, and warnings have a status.

@@ -1,10 +1,10 @@
 //! Readers and writers that are interrupted, fail or end between their bytes, and would then go on.
 
 use crate::comparisons::{same, same_in};
-use crate::examples::NOTHING;
-use crate::fakes::{Giver, Source, Taker, Turn};
 use leak_find::{ReadFault, read_all};
 use leak_streams::{WriteFault, write};
+use leak_tests_inputs::examples::NOTHING;
+use leak_tests_inputs::fakes::{Giver, Source, Taker, Turn};
 use std::test::Fail;
 
 /// Half of the interruptions that end a reading or a writing, and more.

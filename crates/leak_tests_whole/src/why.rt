@@ -1,13 +1,13 @@
 //! Runs that ask what holds a block, over readers and a writer, some of which fail.
 
 use crate::comparisons::same;
-use crate::examples::ONE_BLOCK;
-use crate::fakes::{Sink, Source};
 use crate::samples::core_of;
 use leak_find::{Context, FindError, Options, ReadFault, RunFault, Skip, Task, WriteFault, run};
 use leak_index::Reading;
 use leak_mtrace::LogError;
 use leak_pool::Plan;
+use leak_tests_inputs::examples::ONE_BLOCK;
+use leak_tests_inputs::fakes::{Sink, Source};
 use std::test::Fail;
 use std::thread::Threads;
 

@@ -14,7 +14,7 @@ keep_core-requires-after_bounds g c κs within =
 
 pub returns-in-Err-clause-refused : goal.returns-in-Err-clause-refused
 returns-in-Err-clause-refused g c =
-    rest_refused g.R.ReadCalls.calls c.args.limits c.args.skip c.args.readers.now _ _ c.in_ok-begun.begun _ c.in_ok-begun.ensures.ok c.keep_core.new.reader _ c.in-Err.ensures.refused
+    rw (c.at_rest.ensures) (rest_refused g.R.ReadCalls.calls c.args.limits c.args.skip c.args.readers.now _ _ c.in_ok-begun.begun _ c.in_ok-begun.ensures.ok c.keep_core.new.reader _ c.in-Err.ensures.refused)
 
 pub returns-in-Ok-clause-ok : goal.returns-in-Ok-clause-ok
 returns-in-Ok-clause-ok g c =

@@ -1,12 +1,12 @@
 //! The lines of a log are read by one worker or side by side by several. What is read is the same.
 
 use crate::comparisons::{same, same_in};
-use crate::fakes::Steps;
 use leak_blocks::{Replayed, SmallSpans};
 use leak_mtrace::LogError;
 use leak_replaying::{LogByTexts, replay_reading, widened};
 use leak_streams::ReadFault;
 use leak_team::Team;
+use leak_tests_inputs::fakes::Steps;
 use std::alloc::{AllocGlobal, Global};
 use std::process::Abort;
 use std::test::Fail;

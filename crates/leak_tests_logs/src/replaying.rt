@@ -1,13 +1,13 @@
 //! A log is replayed while it is read.
 
 use crate::comparisons::{same, same_in};
-use crate::examples::ONE_BLOCK;
-use crate::fakes::{Source, Steps};
 use leak_blocks::{Block, replay_bytes, replay_with_spans};
 use leak_mtrace::LogError;
 use leak_replaying::{LogByTexts, Numbers, replay_reading, widened};
 use leak_streams::ReadFault;
 use leak_team::Team;
+use leak_tests_inputs::examples::ONE_BLOCK;
+use leak_tests_inputs::fakes::{Source, Steps};
 use std::alloc::{AllocGlobal, Global};
 use std::test::Fail;
 use std::thread::Threads;

@@ -1,8 +1,8 @@
 //! Reading an input piece by piece.
 
 use crate::comparisons::{same, same_in};
-use crate::fakes::{Giver, Source, Turn};
 use leak_streams::{ReadFault, Reading, read_all};
+use leak_tests_inputs::fakes::{Giver, Source, Turn};
 use std::test::Fail;
 
 #[test]
