@@ -112,12 +112,19 @@ def wide_core(*parts):
     return core_of(0xa000, *parts)
 
 
-def wide_star():
+def wide_star(size=0xa000):
     """A core and a log: a root word leads to a block at 0x11000, which leads to 1200 blocks of 8 bytes that touch one another."""
     starts = [0x14000 + 8 * place for place in range(1200)]
     links = [word(0x11000 + 8 * place, start) for place, start in enumerate(starts)]
     log = "+ 0x11000 0x2580\n" + "".join(f"+ {start:#x} 0x8\n" for start in starts)
-    return wide_core(word(0x10008, 0x11000), *links), log.encode()
+    return core_of(size, word(0x10008, 0x11000), *links), log.encode()
+
+
+def led_blocks(count):
+    """A core and a log: a root word leads to each of so many blocks of 8 bytes."""
+    starts = [0x10800 + 8 * place for place in range(count)]
+    roots = [word(0x10008 + 8 * place, start) for place, start in enumerate(starts)]
+    return {"core.k": core(*roots), "trace.log": "".join(f"+ {start:#x} 0x8\n" for start in starts).encode()}
 
 
 def many_blocks(count):
@@ -128,35 +135,28 @@ def many_blocks(count):
     return {"core.k": core_of(0x26000, *links), "trace.log": log.encode()}
 
 
-def of_pieces():
-    """One block. Its links are listed by one worker. The items of the first round are pieces of 27 register words, and of the 476
-    words behind the block, of which one leads to it; the 32 words before it lead nowhere, so they are left out. Each worker that has
-    an item is a thread, but the first of them."""
+def of_roots():
+    """40 blocks to which root words lead: in the first round they are the items. Each worker lists the links of a share of them, and
+    has a share of the items. Each that has one is a thread, but the first of them."""
     return [
-        ("a worker alone", "--workers 1 --piece 1", 0),
-        ("two workers", "--workers 2 --piece 1", 1),
-        ("three workers", "--workers 3 --piece 1", 2),
-        ("four workers, if none are asked for", "--piece 1", 3),
-        ("64 workers", "--workers 64 --piece 1", 63),
-        ("pieces of 512 words, if none are asked for", "--workers 64", 1),
-        ("a piece of 476 words", "--workers 64 --piece 476", 1),
-        ("pieces of 475 words and of one", "--workers 64 --piece 475", 2),
-        ("pieces of 27 words", "--workers 64 --piece 27", 18),
-        ("pieces of 26 words", "--workers 64 --piece 26", 20),
-        ("pieces of 65536 words", "--workers 64 --piece 65536", 1),
+        ("a worker alone", "--workers 1", 0),
+        ("two workers", "--workers 2", 1 + 1),
+        ("three workers", "--workers 3", 2 + 2),
+        ("four workers, if none are asked for", "", 3 + 3),
+        ("64 workers", "--workers 64", 39 + 39),
+        ("64 workers and pieces of one word", "--workers 64 --piece 1", 39 + 39),
     ]
 
 
 def of_stacks():
-    """The star, by three workers: two threads list its links, and one scans a range of memory beside the registers, since the two
-    other ranges lead nowhere. Blocks that a stack has no room for wait. Where 1000 wait besides the first, two threads more scan
-    them."""
+    """The star, in a core that has room for its links, by three workers: two threads list them. The first round has one item.
+    Blocks that a stack has no room for wait. Where 1000 wait besides the first, two threads more scan them."""
     return [
-        ("no stack", "--workers 3 --stack 0", 3 + 2),
-        ("a stack that leaves 1001 blocks", "--workers 3 --stack 199", 3 + 2),
-        ("a stack that leaves 1000 blocks", "--workers 3 --stack 200", 3),
-        ("a stack of 1024 blocks, if none is asked for", "--workers 3", 3),
-        ("the greatest stack", "--workers 3 --stack 65536", 3),
+        ("no stack", "--workers 3 --stack 0", 2 + 2),
+        ("a stack that leaves 1001 blocks", "--workers 3 --stack 199", 2 + 2),
+        ("a stack that leaves 1000 blocks", "--workers 3 --stack 200", 2),
+        ("a stack of 1024 blocks, if none is asked for", "--workers 3", 2),
+        ("the greatest stack", "--workers 3 --stack 65536", 2),
         ("a worker alone without a stack", "--workers 1 --stack 0", 0),
     ]
 
@@ -166,30 +166,35 @@ def of_long():
     the caller among them, sifts a part; of those behind it each but the caller, which reads on, if they are three or more; and
     the caller alone sifts the last 16 KiB. So two workers read two pieces before these, three read one of 1.5 MiB and the rest,
     and four read one of 2 MiB. Sixteen or more read pieces of 8 MiB, and 64 cut the core into 16 parts of 128 KiB. The first
-    round has some 516 items, so each worker has some. A core that is held is not sifted."""
+    round has one item. A core that is held is not sifted."""
     return [
         ("a long core by a worker alone", "--workers 1", 0),
-        ("a long core by two workers", "--workers 2", 2 * 1 + 1),
-        ("a long core by three workers", "--workers 3", 2 * 2 + 2),
-        ("a long core by four workers, if none are asked for", "", 3 + 3),
-        ("a long core by 64 workers", "--workers 64", 15 + 63),
-        ("a long core that is held", "--workers 4 --skip-dead-stack", 3),
+        ("a long core by two workers", "--workers 2", 2 * 1),
+        ("a long core by three workers", "--workers 3", 2 * 2),
+        ("a long core by four workers, if none are asked for", "", 3),
+        ("a long core by 64 workers", "--workers 64", 15),
+        ("a long core that is held", "--workers 4 --skip-dead-stack", 0),
     ]
 
 
 def of_many():
-    """16,384 blocks, so their root words are found by a thread unless one worker does all. Then each worker lists links, and in the
-    first round each scans pieces."""
+    """16,384 blocks whose links have no room. Each worker lists links until there is no more, twice: for a listing, and to mark by
+    links. Then they mark over words, and in the first round each scans pieces: of 27 register words, and of a range of 2,048 words.
+    If links to free chunks are left out, a thread finds the root words beside the lookup, unless one worker does all: twice, too."""
     return [
         ("16,384 blocks by a worker alone", "--workers 1", 0),
-        ("16,384 blocks by two workers", "--workers 2", 1 + 1 + 1),
-        ("16,384 blocks by four workers", "--workers 4", 1 + 3 + 3),
+        ("16,384 blocks by two workers", "--workers 2", 2 * 1 + 1),
+        ("16,384 blocks by four workers", "--workers 4", 2 * 3 + 3),
+        ("16,384 blocks in pieces of 27 words", "--workers 64 --piece 27", 2 * 63 + 63),
+        ("16,384 blocks in pieces of 512 words, if none are asked for", "--workers 64", 2 * 63 + 4),
+        ("16,384 blocks in pieces of 65536 words", "--workers 64 --piece 65536", 2 * 63 + 1),
+        ("16,384 blocks without links, by two workers", "--workers 2 --skip-links", 2 * (1 + 1) + 1),
     ]
 
 
 def of_fewer():
     """One block fewer: the caller finds the root words."""
-    return [("16,383 blocks by two workers", "--workers 2", 1 + 1), ("16,383 blocks by four workers", "--workers 4", 3 + 3)]
+    return [("16,383 blocks without links, by two workers", "--workers 2 --skip-links", 2 * 1 + 1)]
 
 
 def of_long_holders():
@@ -233,13 +238,13 @@ def cases():
     root = word(0x10208, 0x10100)
     block, lines = core(root), b"+ 0x10100 0x20\n"
     star, star_lines = wide_star()
-    one, few = {"core.k": block, "trace.log": lines}, {"core.k": star, "trace.log": star_lines}
+    few, fitting = ({"core.k": it, "trace.log": star_lines} for it in (star, wide_star(0x3c000)[0]))
     sizes = (0x204000, 0x40000)
     long, short = [{"core.k": core_of(size, root), "trace.log": lines} for size in sizes]
     pair = {"core.1": block, "log.1": lines, "core.2": block, "log.2": lines}
     stars = {"core.1": wide_core(), "log.1": star_lines, "core.2": star, "log.2": star_lines}
     of_one, of_both = "one core.k trace.log", "two core.1 log.1 core.2 log.2"
-    tables = [(of_pieces(), of_one, one), (of_stacks(), of_one, few), (of_two(), of_both, pair), (of_two_stacks(), of_both, stars),
+    tables = [(of_roots(), of_one, led_blocks(40)), (of_stacks(), of_one, fitting), (of_two(), of_both, pair), (of_two_stacks(), of_both, stars),
               (of_holders(), "holders core.k trace.log", few), (of_long(), of_one, long),
               (of_long_holders(), "holders core.k trace.log", long),
               (of_short_holders(), "holders core.k trace.log", short), (of_many(), of_one, many_blocks(0x4000)),

@@ -9,4 +9,5 @@ pub mod ReaderLemmas
 pub mod FoundLemmas
 pub mod ByTextLemmas
 pub mod PreparedLemmas
+pub mod LeftLemmas
 pub mod HoldingLemmas

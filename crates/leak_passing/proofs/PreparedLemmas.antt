@@ -169,11 +169,6 @@ module _ (core : List ℕ) (skip : Skip) (blocks some : List Block) (held words 
 
 -- ---- the input
 
--- what was kept, by its head as a slice
-pub kept_by : (passed : PassedByTexts) (held core : List ℕ) (skip : Skip) → held ≡ passed.held.items
-    → IsKept core skip (blocks_of passed.read) passed.held.items passed.words passed.len → IsKept core skip (blocks_of passed.read) held passed.words passed.len
-kept_by passed held core skip same kept = subst (λ (h : List ℕ). IsKept core skip (blocks_of passed.read) h passed.words passed.len) (sym same) kept
-
 -- what is left, by the blocks of the input
 pub left_of : (words left : List ℕ) (now live : Replay) (skip : Skip) → now ≡ live → IsLeftToMark skip now.blocks words left → IsLeftToMark skip live.blocks words left
 left_of words left now live skip same is = subst (λ (r : Replay). IsLeftToMark skip r.blocks words left) same is

@@ -6,4 +6,5 @@ pub mod Sifting
 pub mod Kept
 pub mod ByTexts
 pub mod Prepared
+pub mod Left
 pub mod Passed

@@ -5,8 +5,9 @@
 //! returns a [`Passed`]: the head, the words that are kept, and the log with what was read of it.
 //! [`read_passing_by_texts`] replays the log while it is read, by `leak_replaying`, and holds no more of it than a
 //! piece and a line. It returns a [`PassedByTexts`], which has the texts of the live blocks' callers in place of the
-//! log. [`find_passed`] searches this, and gives what `leak_search::find_one` gives for the whole core. Of a [`Passed`]
-//! [`find_passed_holders`] and [`find_passed_held`] give what `leak_holder_search::find_holders` and `find_held` give.
+//! log. [`find_passed`] searches this, and gives what `leak_search::find_one` gives for the whole core. It lists first
+//! what the words lead to, and lets go of them before it marks. Of a [`Passed`] [`find_passed_holders`] and
+//! [`find_passed_held`] give what `leak_holder_search::find_holders` and `find_held` give.
 //!
 //! Some cores are read whole, before the log: those without such a head, with a head of more than 64 MiB, or with
 //! segments that a header refuses or that are not orderly; and all cores if dead stack is left out, since a sieve does

@@ -28,6 +28,19 @@ pub(crate) struct WithoutCore {
     pub(crate) torn: u64,
 }
 
+/// What is left of a core and its log once it is known which blocks fit.
+#[derive(Drop)]
+pub(crate) struct Left {
+    /// The core's head, or the whole core.
+    pub(crate) held: Vec<u8>,
+    /// The words behind the head that marking needs.
+    pub(crate) words: SparseWords,
+    /// How many bytes the core has behind what is held.
+    pub(crate) len: u64,
+    /// What is known of the input but its core.
+    pub(crate) others: WithoutCore,
+}
+
 /// What is known of the input but its core.
 pub(crate) fn without_core(input: Input) -> WithoutCore
     ensures threads { result.threads ≡ input.entry.threads }

@@ -1,11 +1,18 @@
 -- What ranges lead to without those that lead to no block.
-use Rattle.std.proofs.Common.{◌≡◌, ℕ, ◌≤◌, Bool, true, false, cond, List, [], ◌∷◌, ◌++◌, length, filter, nat_lt, Option, refl, sym, ap, subst, ◌∙◌, arith}
+use Rattle.std.proofs.Common.{◌≡◌, ℕ, ◌≤◌, Bool, true, false, cond, List, [], ◌∷◌, ◌++◌, length, filter, nat_lt, Option, None, Some, is_some, refl, sym, ap, subst, ◌∙◌, arith}
+use Rattle.std.specs.Iterator.{YieldsFirst}
 use Rattle.std.specs.List.{AllByRecursion}
-use Rattle.std.proofs.lemmas.Bool.{ltb-false}
+use Rattle.std.proofs.lemmas.Bool.{lt-ltb, ltb-false}
+use Rattle.leak_elf.specs.Words.{word_of}
+use Rattle.leak_notes.specs.Threads.{Registers}
+use Rattle.leak_blocks.specs.declared.block.Block.{Block}
+use Rattle.leak_blocks.specs.declared.small.Span.{Span}
 use Rattle.leak_index.specs.Hits.{Index}
 use Rattle.leak_roots.specs.Places.{Places, AreRanges, addresses_in, memory_places}
 use Rattle.leak_scan.specs.Targets.{targets_of}
+use Rattle.leak_roots.specs.Found.{AreRootsFoundWhere}
 use Rattle.leak_pool.specs.Leading.{leading, leads}
+use Rattle.leak_pool.specs.LeadingFound.{AreLeadingFound}
 use Rattle.leak_marks.specs.Partition.{Partitions}
 use Rattle.leak_marks.specs.Reach.{Reach}
 use Rattle.leak_pool.specs.Marking.{IsSet, MarksFromRoots, graph_of, led_by_roots, led_in_memory, lists_of}
@@ -32,6 +39,11 @@ ranges_left test (r ∷ rs) h = go (test r) (ranges_left test rs h.2)
 
 -- ---- what they lead to
 
+-- whether there is a first one says whether there is one
+pub some_first : (list rest : List ℕ) (first : Option ℕ) → YieldsFirst (λ xs. xs) list first rest → is_some first ≡ nat_lt 0 (length list)
+some_first list rest None h = rw h.0 refl
+some_first list rest (Some x) h = rw h (sym (lt-ltb 0 (length (x ∷ rest)) (omega arith)))
+
 none : (list : List ℕ) → nat_lt 0 (length list) ≡ false → list ≡ []
 none [] h = refl
 none (x ∷ xs) h = let z : length (x ∷ xs) ≤ 0 = ltb-false 0 (length (x ∷ xs)) h in absurd (omega (arith, z))
@@ -57,6 +69,22 @@ module _ (skips_links : Bool) (word_at : ℕ → Option ℕ) (index : Index) whe
 pub led_by_leading : (word_at : ℕ → Option ℕ) (index : Index) (places : Places) → led_by_roots word_at index (leading word_at index places) ≡ led_by_roots word_at index places
 unfolding leading
 led_by_leading word_at index places = ap (λ (l : List ℕ). targets_of index places.registers ++ l) (led_same places.skips_links word_at index places.memory)
+
+-- all ranges that a search finds, and those of them that lead to a block
+pub leading_found : (index : Index) (unwritable : Bool) (small : List Span) (file : List ℕ) (threads : Registers) (blocks : List Block) (p : Places)
+    → AreRootsFoundWhere (leads false (word_of file) index) unwritable small file threads blocks p → AreLeadingFound index unwritable small file threads blocks p
+unfolding leading
+leading_found index unwritable small file threads blocks p where' =
+    let all' : Places = record p { memory = where'.all } in
+    let kept : p ≡ record p { memory = filter (leads false (word_of file) index) where'.all } = ap (λ (l : List (ℕ × ℕ)). record p { memory = l }) where'.kept in
+    let value' : p ≡ leading (word_of file) index all' =
+    kept ∙ ap (λ (s : Bool). record p { memory = filter (leads s (word_of file) index) where'.all }) (sym where'.found.links) in
+    record {
+      all = all';
+      found = where'.found;
+      value = value';
+      led = ap (λ (q : Places). led_by_roots (word_of file) index q) value' ∙ led_by_leading (word_of file) index all';
+    }
 
 -- ---- what is marked
 

@@ -24,3 +24,5 @@ pub mod DepthOfCores
 pub mod CourseExample
 pub mod GateLemmas
 pub mod LeadingLemmas
+pub mod ListingLemmas
+pub mod HeadLemmas

@@ -15,5 +15,9 @@ pub mod ScopeLaw
 pub mod Room
 pub mod Edges
 pub mod EdgesLaw
+pub mod Lists
+pub mod ListsLaw
+pub mod Listing
 pub mod Tops
 pub mod Leading
+pub mod LeadingFound

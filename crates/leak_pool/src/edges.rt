@@ -39,7 +39,7 @@ pub(crate) fn row_size(blocks: usize, workers: u32) -> usize
 }
 
 /// How many targets each of so many workers has room for. They are counted in 32 bits.
-fn share_of(room: EdgeRoom, workers: u32) -> u32
+pub(crate) fn share_of(room: EdgeRoom, workers: u32) -> u32
     requires { 0 < workers }
     ensures { result ≡ share_of room workers }
 {
@@ -94,7 +94,7 @@ pub(crate) fn listed_targets(rows: &[Rows], size: usize, block: u32) -> &[u32]
 
 /// What some blocks lead to, block by block. Where each list lies is asked for before any is read, so that a processor
 /// waits for all of them at once.
-fn lists_of<'a>(
+pub(crate) fn lists_of<'a>(
     alloc: Global,
     rows: &'a [Rows],
     size: usize,

@@ -5,12 +5,12 @@ ghost use Rattle.leak_roots.specs.Places.{IsRange};
 ghost use Rattle.leak_pool.specs.Leading.{leading, leads};
 ghost use Rattle.leak_pool.specs.Marking.{led_by_roots};
 
+use crate::leading_found::leads_with_links;
 use crate::scope::of_memory;
 use leak_blocks::Live;
 use leak_elf::Words;
 use leak_index::Lookup;
 use leak_roots::Roots;
-use leak_scan::{kept_between, lead_somewhere};
 use leak_team::Team;
 use std::alloc::{AllocError, Global};
 use std::thread::{Threads, join};
@@ -32,9 +32,7 @@ fn does_lead<W: Words, L: Lookup>(
         leads roots.now.skips_links (W.word_at words.now) (L.index lookup.now) range }
 {
     if !roots.skips_links() {
-        if let Some(kept) = kept_between(words, lookup, range.0, range.1) {
-            return lead_somewhere(lookup, kept);
-        }
+        return leads_with_links(words, lookup, range);
     }
     of_memory(words, lookup, live, roots, range)
         .next()

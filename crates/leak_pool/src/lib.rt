@@ -1,12 +1,15 @@
 //! Marks the blocks that chains of words reach from the roots, by worker threads or alone.
 //!
-//! The program marks a core by [`mark_by_edges`]. The workers of a [`Plan`] list first what each block leads to, and then mark
-//! over these lists; if those pass an [`EdgeRoom`], they mark over the words. In the later of two cores it marks by [`mark_from`],
-//! over the words, from blocks that are marked already ([`Start`]). Each gives a [`Marked`]: for each block whether it is
-//! marked, the blocks that each worker claimed, and the number of rounds. To tell who holds the memory, it lists what each
-//! block leads to by [`list_edges`], as [`Listed`], in whatever room that takes, and what the roots lead to by [`first_blocks`].
-//! Before it marks one core it lets go of the root words that lead nowhere, by [`leading_roots`] and the workers of a `leak_team::Team`.
-//! Where the memory has words without zeros at once, as a sifted core has, that call and the listing take no others.
+//! A core that the program passes it lists by [`list_core`], and lets go of: a [`Listing`] has what each block leads to, and the
+//! blocks that root words lead to. The workers of a [`Plan`] mark over that ([`mark_by_listing`]), and [`heads_by_edges`] tells
+//! which of the other blocks are heads. Another core it marks by [`mark_by_edges`]: the workers list first what each block leads
+//! to, and then mark over these lists; if those pass an [`EdgeRoom`], they mark over the words. In the later of two cores it
+//! marks by [`mark_from`], over the words, from blocks that are marked already ([`Start`]). Each gives a [`Marked`]: for each
+//! block whether it is marked, the blocks that each worker claimed, and the number of rounds. To tell who holds the memory, it
+//! lists what each block leads to by [`list_edges`], as [`Listed`], in whatever room that takes, and what the roots lead to by
+//! [`first_blocks`]. Before it lists or marks one core it lets go of the root words that lead nowhere, by [`leading_roots`] and
+//! the workers of a `leak_team::Team`, or finds only the others, by [`find_leading_roots`]. Where the memory has words without
+//! zeros at once, as a sifted core has, these calls and the listing take no others.
 //!
 //! [`mark`], which marks one core over its words, and [`mark_alone`], which does so on the caller's thread, are for libraries
 //! and tests. So are gates ([`Gate`]) that hold a worker: the program's is [`Open`].
@@ -36,10 +39,15 @@ mod hand;
 mod items;
 mod later_rounds;
 mod leading;
+mod leading_found;
 mod listed;
+mod listing;
+mod listing_core;
+mod listing_heads;
 mod marked;
 mod marking;
 mod marking_by_edges;
+mod marking_by_listing;
 mod marking_by_rounds;
 mod marking_state;
 mod plan;
@@ -58,10 +66,15 @@ pub use alone::mark_alone;
 pub use error::PoolError;
 pub use gate::{Gate, Open};
 pub use leading::leading_roots;
+pub use leading_found::find_leading_roots;
 pub use listed::{Listed, first_blocks, list_edges};
+pub use listing::Listing;
+pub use listing_core::list_core;
+pub use listing_heads::heads_by_edges;
 pub use marked::Marked;
 pub use marking::{mark, mark_from};
 pub use marking_by_edges::mark_by_edges;
+pub use marking_by_listing::mark_by_listing;
 pub use plan::{Plan, PlanError};
 pub use room::EdgeRoom;
 pub use scope::of_memory;

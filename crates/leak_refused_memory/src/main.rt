@@ -8,6 +8,7 @@
 
 mod alone;
 mod answer;
+mod listing;
 mod marking;
 mod passing;
 mod reading;
@@ -27,7 +28,7 @@ use std::rt::Env;
 use std::thread::Threads;
 
 /// The calls, by name.
-static CALLS: [&str; 63] = [
+static CALLS: [&str; 67] = [
     "core_k",
     "Image::read",
     "Threads::read",
@@ -52,6 +53,7 @@ static CALLS: [&str; 63] = [
     "cut",
     "pieces",
     "leading_roots",
+    "find_leading_roots",
     "Claims::new",
     "Marks::new",
     "split",
@@ -60,10 +62,13 @@ static CALLS: [&str; 63] = [
     "mark",
     "mark_from",
     "mark_by_edges",
+    "list_core",
+    "mark_by_listing",
     "differing",
     "carry",
     "retrace",
     "heads",
+    "heads_by_edges",
     "Totals::of",
     "text",
     "find_alone",
@@ -182,6 +187,7 @@ fn answer_of_roots<R: AllocGlobal + Threads + Sync>(rt: &R, name: &str) -> Optio
         "cut" => searching::cut(alloc),
         "pieces" => searching::pieces(alloc),
         "leading_roots" => searching::leading(rt),
+        "find_leading_roots" => listing::leading(alloc),
         _ => answer_of_marking(rt, name),
     }
 }
@@ -198,10 +204,13 @@ fn answer_of_marking<R: AllocGlobal + Threads + Sync>(rt: &R, name: &str) -> Opt
         "mark" => marking::by_workers(rt),
         "mark_from" => marking::from_a_start(rt),
         "mark_by_edges" => marking::by_edges(rt),
+        "list_core" => listing::listed(rt),
+        "mark_by_listing" => listing::marked(rt),
         "differing" => marking::pages(rt),
         "carry" => marking::carried(alloc),
         "retrace" => marking::retraced(rt),
         "heads" => marking::headed(alloc),
+        "heads_by_edges" => listing::headed(rt),
         "Totals::of" => reporting::totals(alloc),
         "text" => reporting::report(alloc),
         _ => answer_of_search(rt, name),

@@ -79,20 +79,24 @@ fn times_on(lists: &[Vec<u32>], block: usize) -> u64 {
 }
 
 /// Whether all of `count` blocks are marked, and each is on one list once.
-fn are_all_marked(marked: &Marked, count: usize) -> bool {
+pub(crate) fn are_all_marked(marked: &Marked, count: usize) -> bool {
     let is_set = marked.set.len() == count && marked.set.iter().all(|block| *block);
     is_set && (0..count).all(|block| times_on(marked.claims.as_slice(), block) == 1)
 }
 
 /// The core and the log of a sample, read.
 #[derive(Drop)]
-struct MarkingInput<'a> {
-    image: Image<'a>,
-    live: Live,
-    roots: Roots,
+pub(crate) struct MarkingInput<'a> {
+    pub(crate) image: Image<'a>,
+    pub(crate) live: Live,
+    pub(crate) roots: Roots,
 }
 
-fn marking_input<'a>(alloc: Global, core: &'a [u8], log: &str) -> Option<MarkingInput<'a>> {
+pub(crate) fn marking_input<'a>(
+    alloc: Global,
+    core: &'a [u8],
+    log: &str,
+) -> Option<MarkingInput<'a>> {
     let image = Image::read(alloc, core).ok()?;
     let live = live_of(alloc, log)?;
     let roots = find_roots(alloc, &image, &live, &SmallSpans::none(alloc))?.ok()?;

@@ -11,7 +11,7 @@ use Rattle.leak_elf.specs.Words.{places}
 use Rattle.leak_blocks.specs.declared.block.Block.{Block}
 use Rattle.leak_blocks.specs.Span.{AreAddressed, AreDisjoint, span_end}
 use Rattle.leak_roots.specs.declared.inside.Kept.{Kept}
-use Rattle.leak_roots.specs.Kept.{Adds, LiesBefore}
+use Rattle.leak_roots.specs.Kept.{Adds, FitsBelow}
 use Rattle.leak_roots.specs.Places.{aligned_places}
 use Rattle.leak_roots.specs.Roots.{AreOrdered, is_apart, is_free}
 use Rattle.leak_roots.proofs.Addresses.{range_same}
@@ -106,18 +106,18 @@ pub starts_ascend : (bs : List Block) (j k : ℕ) (d : Block) (c : ℕ) → AreO
 starts_ascend bs j k d c ordered l h e = let s = later_start bs j k d ordered l h in omega arith
 
 -- The words before the cursor were added: to add those after it is to add all of them.
-pub record Filled (bs : List Block) (to : ℕ) (all : List ℕ) (first now : Kept) (i cursor : ℕ) : Type 0 where
+pub record Filled (keeps : ℕ × ℕ → Bool) (from : ℕ) (bs : List Block) (to : ℕ) (all : List ℕ) (first now : Kept) (i cursor : ℕ) : Type 0 where
   pub same : now.spans.now ≡ first.spans.now
-  pub low : LiesBefore cursor now
-  pub high : LiesBefore to now
+  pub low : FitsBelow cursor now
+  pub high : FitsBelow to now
   pub past : IsPast bs i cursor
-  pub left : (rest : Kept) → Adds (filter (is_free bs) (places cursor to)) now rest → Adds all first rest
+  pub left : (rest : Kept) → Adds keeps cursor to (filter (is_free bs) (places cursor to)) now rest → Adds keeps from to all first rest
 
 -- a block with bytes is passed
-pub filled_more : (bs : List Block) (to : ℕ) (all : List ℕ) (first now more : Kept) (i cursor : ℕ) (d : Block) → AreOrdered bs → i < length bs → 0 < (get_or bs i d).size → (get_or bs i d).start ≤ to → Filled bs to all first now i cursor
-    → Adds (aligned_places cursor (get_or bs i d).start) now more → ((addr : ℕ) → (get_or bs i d).start ≤ addr → LiesBefore addr now → LiesBefore addr more)
-    → Filled bs to all first more (i + 1) (max cursor ((get_or bs i d).start + (get_or bs i d).size))
-filled_more bs to all first now more i cursor d ordered h some low filled adds before =
+pub filled_more : (keeps : ℕ × ℕ → Bool) (from : ℕ) (bs : List Block) (to : ℕ) (all : List ℕ) (first now more : Kept) (i cursor : ℕ) (d : Block) → AreOrdered bs → i < length bs → 0 < (get_or bs i d).size → (get_or bs i d).start ≤ to → Filled keeps from bs to all first now i cursor
+    → Adds keeps cursor (get_or bs i d).start (aligned_places cursor (get_or bs i d).start) now more → ((addr : ℕ) → (get_or bs i d).start ≤ addr → FitsBelow addr now → FitsBelow addr more)
+    → Filled keeps from bs to all first more (i + 1) (max cursor ((get_or bs i d).start + (get_or bs i d).size))
+filled_more keeps from bs to all first now more i cursor d ordered h some low filled adds before =
     let b = get_or bs i d in
     let e = max cursor (b.start + b.size) in
     record {
@@ -125,12 +125,12 @@ filled_more bs to all first now more i cursor d ordered h some low filled adds b
       low = before e (omega arith) (before_later cursor e now (omega arith) filled.low);
       high = before to low filled.high;
       past = past_more bs i cursor e d h filled.past (omega arith) (inr (omega arith));
-      left = λ rest after. filled.left rest (rw (gap_step bs i cursor to d ordered h filled.past some low) (adds_more _ _ now more rest adds after));
+      left = λ rest after. filled.left rest (rw (gap_step bs i cursor to d ordered h filled.past some low) (adds_more keeps cursor b.start e to _ _ now more rest (omega arith) (omega arith) low adds after));
     }
 
 -- a block without bytes is passed
-pub filled_same : (bs : List Block) (to : ℕ) (all : List ℕ) (first now : Kept) (i cursor : ℕ) (d : Block) → i < length bs → (get_or bs i d).size ≡ 0 → Filled bs to all first now i cursor → Filled bs to all first now (i + 1) cursor
-filled_same bs to all first now i cursor d h none filled = record {
+pub filled_same : (keeps : ℕ × ℕ → Bool) (from : ℕ) (bs : List Block) (to : ℕ) (all : List ℕ) (first now : Kept) (i cursor : ℕ) (d : Block) → i < length bs → (get_or bs i d).size ≡ 0 → Filled keeps from bs to all first now i cursor → Filled keeps from bs to all first now (i + 1) cursor
+filled_same keeps from bs to all first now i cursor d h none filled = record {
   same = filled.same;
   low = filled.low;
   high = filled.high;
@@ -138,9 +138,9 @@ filled_same bs to all first now i cursor d h none filled = record {
   left = filled.left;
 }
 
-pub filled_first : (bs : List Block) (from to n : ℕ) (first : Kept) → AreOrdered bs → from ≤ to → n ≤ length bs → ((k : ℕ) (d : Block) → k < n → (get_or bs k d).start ≤ from) → LiesBefore from first
-    → Filled bs to (filter (is_free bs) (places from to)) first first (n - 1) from
-filled_first bs from to n first ordered l h within before = record {
+pub filled_first : (keeps : ℕ × ℕ → Bool) (bs : List Block) (from to n : ℕ) (first : Kept) → AreOrdered bs → from ≤ to → n ≤ length bs → ((k : ℕ) (d : Block) → k < n → (get_or bs k d).start ≤ from) → FitsBelow from first
+    → Filled keeps from bs to (filter (is_free bs) (places from to)) first first (n - 1) from
+filled_first keeps bs from to n first ordered l h within before = record {
   same = refl;
   low = before;
   high = before_later from to first l before;
@@ -149,9 +149,9 @@ filled_first bs from to n first ordered l h within before = record {
 }
 
 -- all blocks that begin before the end are passed
-pub filled_all : (bs : List Block) (to : ℕ) (all : List ℕ) (first now more : Kept) (i cursor : ℕ) (d : Block) → Filled bs to all first now i cursor → ((k : ℕ) → i ≤ k → k < length bs → to ≤ (get_or bs k d).start)
-    → Adds (aligned_places cursor to) now more → Adds all first more
-filled_all bs to all first now more i cursor d filled high adds = filled.left more (rw (gap_end bs i cursor to d filled.past high) adds)
+pub filled_all : (keeps : ℕ × ℕ → Bool) (from : ℕ) (bs : List Block) (to : ℕ) (all : List ℕ) (first now more : Kept) (i cursor : ℕ) (d : Block) → Filled keeps from bs to all first now i cursor → ((k : ℕ) → i ≤ k → k < length bs → to ≤ (get_or bs k d).start)
+    → Adds keeps cursor to (aligned_places cursor to) now more → Adds keeps from to all first more
+filled_all keeps from bs to all first now more i cursor d filled high adds = filled.left more (rw (gap_end bs i cursor to d filled.past high) adds)
 
 -- live blocks are ordered
 ordered_at : (b : Block) (bs : List Block) (k : ℕ) (d : Block) → AllByRecursion (λ c. span_end b ≤ c.start) bs → k < length bs → b.start + b.size ≤ (get_or bs k d).start

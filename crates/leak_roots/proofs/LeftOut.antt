@@ -4,6 +4,7 @@ use Rattle.std.specs.List.{AllByRecursion, list_all, list_any, range_with_len}
 use Rattle.std.proofs.Math.Bool.{and-false}
 use Rattle.std.proofs.lemmas.Bool.{cases_lt, le-ltb, lt-leb, lt-ltb}
 use Rattle.std.proofs.lemmas.List.{take_more, get_or_default, length-map, length-append}
+use Rattle.std.proofs.lemmas.Grind.{flat_map-append}
 use Rattle.std.proofs.lemmas.List.Elements.{filter-append}
 use Rattle.std.proofs.lemmas.List.FromFn.{length-range_with_len}
 use Rattle.leak_lemmas.proofs.Members.{each_push}
@@ -14,12 +15,12 @@ use Rattle.leak_elf.specs.declared.segment.Segment.{Segment}
 use Rattle.leak_elf.specs.Segments.{segments_of}
 use Rattle.leak_elf.specs.Words.{places, word_of}
 use Rattle.leak_roots.specs.declared.inside.Kept.{Kept}
-use Rattle.leak_roots.specs.Kept.{Adds, LiesBefore}
+use Rattle.leak_roots.specs.Kept.{Adds, AreRangesKept, FitsBelow}
 use Rattle.leak_roots.specs.Places.{IsRange, AreRanges, EndBy, addresses_in, memory_places}
 use Rattle.leak_roots.specs.Roots.{has_roots, is_apart, is_inside, outside_places, outside_places_in}
 use Rattle.leak_roots.proofs.Addresses.{addresses_in-split}
 use Rattle.leak_roots.proofs.Cutting.{range_is}
-use Rattle.leak_roots.proofs.Ranges.{end_later, ranges_push, places_push}
+use Rattle.leak_roots.proofs.Ranges.{begin_earlier, each_append, end_later, keeps_all, each_kept, ranges_append, ranges_kept, ranges_push, places_push}
 use Rattle.leak_roots.proofs.Spans.{none_inside}
 
 -- ---- places that are all inside spans, or all outside
@@ -43,21 +44,50 @@ pass_none p from to m h = filter_false p (λ (i : ℕ). from + 8 * i) 0 ((to - f
 
 -- ---- places that are added
 
-pub adds_none : (kept : Kept) → Adds [] kept kept
-adds_none kept = record { spans = refl; memory = sym (append-nil (memory_places kept.memory.items)); inside = omega arith }
+pub adds_none : (keeps : ℕ × ℕ → Bool) (from to : ℕ) (kept : Kept) → Adds keeps from to [] kept kept
+adds_none keeps from to kept = record {
+  spans = refl;
+  all = [];
+  ranges = tt;
+  begins = tt;
+  ends = tt;
+  outside = refl;
+  memory = sym (append-nil kept.memory.items);
+  inside = omega arith;
+}
 
-pub adds_more : (xs ys : List ℕ) (a b c : Kept) → Adds xs a b → Adds ys b c → Adds (xs ++ ys) a c
-adds_more xs ys a b c x y =
+-- places up to one address, and after them those from one on that isn't before it
+pub adds_more : (keeps : ℕ × ℕ → Bool) (from mid low to : ℕ) (xs ys : List ℕ) (a b c : Kept) → from ≤ low → mid ≤ low → mid ≤ to → Adds keeps from mid xs a b → Adds keeps low to ys b c → Adds keeps from to (xs ++ ys) a c
+adds_more keeps from mid low to xs ys a b c first between last x y =
     let out = λ (n : ℕ). not (is_inside a.spans.now n) in
-    let kept : memory_places c.memory.items ≡ memory_places b.memory.items ++ filter out ys = rw x.spans at y.memory in
+    let others : memory_places y.all ≡ filter out ys = rw x.spans at y.outside in
     let counted : c.inside ≡ b.inside + length (filter (is_inside a.spans.now) ys) = rw x.spans at y.inside in
     record {
       spans = y.spans ∙ x.spans;
-      memory = kept ∙ ap (λ (zs : List ℕ). zs ++ filter out ys) x.memory ∙ append_assoc (memory_places a.memory.items) (filter out xs) (filter out ys)
-          ∙ ap (λ (zs : List ℕ). memory_places a.memory.items ++ zs) (sym (filter-append out xs ys));
+      all = x.all ++ y.all;
+      ranges = ranges_append low x.all y.all x.ranges (end_later mid low x.all between x.ends) y.ranges y.begins;
+      begins = each_append (λ (r : ℕ × ℕ). from ≤ r.0) x.all y.all x.begins (begin_earlier from low y.all first y.begins);
+      ends = each_append (λ (r : ℕ × ℕ). r.1 ≤ to) x.all y.all (end_later mid to x.all last x.ends) y.ends;
+      outside = flat_map-append addresses_in x.all y.all ∙ ap (λ (zs : List ℕ). zs ++ memory_places y.all) x.outside
+          ∙ ap (λ (zs : List ℕ). filter out xs ++ zs) others ∙ sym (filter-append out xs ys);
+      memory = y.memory ∙ ap (λ (rs : List (ℕ × ℕ)). rs ++ filter keeps y.all) x.memory ∙ append_assoc a.memory.items (filter keeps x.all) (filter keeps y.all)
+          ∙ ap (λ (rs : List (ℕ × ℕ)). a.memory.items ++ rs) (sym (filter-append keeps x.all y.all));
       inside = let m = x.inside in let n = ap length (filter-append (is_inside a.spans.now) xs ys) in
           let l = length-append (filter (is_inside a.spans.now) xs) (filter (is_inside a.spans.now) ys) in omega (arith, m, counted, n, l);
     }
+
+-- the same places, between addresses further apart
+pub adds_wider : (keeps : ℕ × ℕ → Bool) (from to low high : ℕ) (xs : List ℕ) (a b : Kept) → from ≤ low → high ≤ to → Adds keeps low high xs a b → Adds keeps from to xs a b
+adds_wider keeps from to low high xs a b first last x = record {
+  spans = x.spans;
+  all = x.all;
+  ranges = x.ranges;
+  begins = begin_earlier from low x.all first x.begins;
+  ends = end_later high to x.all last x.ends;
+  outside = x.outside;
+  memory = x.memory;
+  inside = x.inside;
+}
 
 -- no place was added yet
 pub record HasNone (spans : List Span) (kept : Kept) : Type 0 where
@@ -65,99 +95,119 @@ pub record HasNone (spans : List Span) (kept : Kept) : Type 0 where
   pub inside : kept.inside ≡ 0
   pub same : kept.spans.now ≡ spans
 
-pub none_before : (spans : List Span) (kept : Kept) (addr : ℕ) → AreApart spans → HasNone spans kept → LiesBefore addr kept
-none_before spans kept addr apart none = record { apart = rw none.same apart; ranges = rw none.memory tt; ends = rw none.memory tt; room = let i = none.inside in omega arith }
+pub none_before : (spans : List Span) (kept : Kept) (addr : ℕ) → AreApart spans → HasNone spans kept → FitsBelow addr kept
+none_before spans kept addr apart none = record { apart = rw none.same apart; room = let i = none.inside in omega arith }
 
--- after them those outside the spans are kept, and the others counted
-pub all_kept : (spans : List Span) (places : List ℕ) (first kept : Kept) → HasNone spans first → Adds places first kept → memory_places kept.memory.items ≡ filter (λ a. not (is_inside spans a)) places
-all_kept spans places first kept none adds = rw (none.memory, none.same) at adds.memory
+-- after them the ranges of those outside the spans are kept as far as they pass, and the others counted
+pub all_kept : (keeps : ℕ × ℕ → Bool) (from to : ℕ) (spans : List Span) (places : List ℕ) (first kept : Kept) → HasNone spans first → Adds keeps from to places first kept → AreRangesKept keeps (filter (λ a. not (is_inside spans a)) places) kept.memory.items
+all_kept keeps from to spans places first kept none adds = record { all = adds.all; ranges = adds.ranges; whole = rw none.same at adds.outside; memory = rw none.memory at adds.memory }
 
-pub all_counted : (spans : List Span) (places : List ℕ) (first kept : Kept) → HasNone spans first → Adds places first kept → kept.inside ≡ length (filter (is_inside spans) places)
-all_counted spans places first kept none adds = let i = none.inside in let a = rw none.same at adds.inside in omega (arith, i, a)
+pub kept_ranges : (keeps : ℕ × ℕ → Bool) (places : List ℕ) (kept : List (ℕ × ℕ)) → AreRangesKept keeps places kept → AreRanges kept
+kept_ranges keeps places kept is = rw is.memory (ranges_kept keeps is.all is.ranges)
 
--- a range of places outside the spans
-adds_kept : (old new : Kept) (from to : ℕ) → from % 8 ≡ 0 → ((a : ℕ) → from ≤ a → a < to → a % 8 ≡ 0 → is_inside old.spans.now a ≡ false)
-    → new.spans.now ≡ old.spans.now → new.memory.items ≡ old.memory.items ++ (from, to) ∷ [] → new.inside ≡ old.inside → Adds (addresses_in (from, to)) old new
-adds_kept old new from to f alike same more i = record {
+pub all_whole : (keeps : ℕ × ℕ → Bool) (places : List ℕ) (kept : List (ℕ × ℕ)) → ((r : ℕ × ℕ) → keeps r ≡ true) → AreRangesKept keeps places kept → memory_places kept ≡ places
+all_whole keeps places kept each is = ap memory_places (is.memory ∙ keeps_all keeps is.all each) ∙ is.whole
+
+pub all_counted : (keeps : ℕ × ℕ → Bool) (from to : ℕ) (spans : List Span) (places : List ℕ) (first kept : Kept) → HasNone spans first → Adds keeps from to places first kept → kept.inside ≡ length (filter (is_inside spans) places)
+all_counted keeps from to spans places first kept none adds = let i = none.inside in let a = rw none.same at adds.inside in omega (arith, i, a)
+
+-- a range of places outside the spans, if the test keeps it
+adds_kept : (keeps : ℕ × ℕ → Bool) (old new : Kept) (from to : ℕ) → IsRange (from, to) → ((a : ℕ) → from ≤ a → a < to → a % 8 ≡ 0 → is_inside old.spans.now a ≡ false)
+    → new.spans.now ≡ old.spans.now → new.memory.items ≡ old.memory.items ++ filter keeps ((from, to) ∷ []) → new.inside ≡ old.inside → Adds keeps from to (addresses_in (from, to)) old new
+adds_kept keeps old new from to is alike same more i = record {
   spans = same;
-  memory = ap memory_places more ∙ places_push old.memory.items (from, to)
-      ∙ ap (λ (xs : List ℕ). memory_places old.memory.items ++ xs) (sym (pass_all (λ a. not (is_inside old.spans.now a)) from to f (λ a l m n. ap not (alike a l m n))));
-  inside = let z = ap length (pass_none (is_inside old.spans.now) from to f alike) in omega (arith, z, i);
+  all = (from, to) ∷ [];
+  ranges = (is, tt, tt);
+  begins = (omega arith, tt);
+  ends = (omega arith, tt);
+  outside = append-nil (addresses_in (from, to)) ∙ sym (pass_all (λ a. not (is_inside old.spans.now a)) from to is.from_multiple (λ a l m n. ap not (alike a l m n)));
+  memory = more;
+  inside = let z = ap length (pass_none (is_inside old.spans.now) from to is.from_multiple alike) in omega (arith, z, i);
 }
 
 -- a range of places inside the spans
-adds_counted : (old new : Kept) (from to : ℕ) → from % 8 ≡ 0 → ((a : ℕ) → from ≤ a → a < to → a % 8 ≡ 0 → is_inside old.spans.now a ≡ true)
-    → new.spans.now ≡ old.spans.now → new.memory.items ≡ old.memory.items → new.inside ≡ old.inside + (to - from) / 8 → Adds (addresses_in (from, to)) old new
-adds_counted old new from to f alike same more i = record {
+adds_counted : (keeps : ℕ × ℕ → Bool) (old new : Kept) (from to : ℕ) → from % 8 ≡ 0 → ((a : ℕ) → from ≤ a → a < to → a % 8 ≡ 0 → is_inside old.spans.now a ≡ true)
+    → new.spans.now ≡ old.spans.now → new.memory.items ≡ old.memory.items → new.inside ≡ old.inside + (to - from) / 8 → Adds keeps from to (addresses_in (from, to)) old new
+adds_counted keeps old new from to f alike same more i = record {
   spans = same;
-  memory = ap memory_places more ∙ sym (append-nil (memory_places old.memory.items))
-      ∙ ap (λ (xs : List ℕ). memory_places old.memory.items ++ xs) (sym (pass_none (λ a. not (is_inside old.spans.now a)) from to f (λ a l m n. ap not (alike a l m n))));
+  all = [];
+  ranges = tt;
+  begins = tt;
+  ends = tt;
+  outside = sym (pass_none (λ a. not (is_inside old.spans.now a)) from to f (λ a l m n. ap not (alike a l m n)));
+  memory = more ∙ sym (append-nil old.memory.items);
   inside = let z = ap length (pass_all (is_inside old.spans.now) from to f alike) in let n = length-addresses from to in omega (arith, z, n, i);
 }
 
-pub before_later : (a b : ℕ) (kept : Kept) → a ≤ b → LiesBefore a kept → LiesBefore b kept
-before_later a b kept l k = record { apart = k.apart; ranges = k.ranges; ends = end_later a b kept.memory.items l k.ends; room = let r = k.room in omega arith }
+pub before_later : (a b : ℕ) (kept : Kept) → a ≤ b → FitsBelow a kept → FitsBelow b kept
+before_later a b kept l k = record { apart = k.apart; room = let r = k.room in omega arith }
 
-before_kept : (old new : Kept) (from to : ℕ) → IsRange (from, to) → new.spans.now ≡ old.spans.now → new.memory.items ≡ old.memory.items ++ (from, to) ∷ [] → new.inside ≡ old.inside → LiesBefore from old → LiesBefore to new
-before_kept old new from to is same more i k =
-    let s = is.some in record {
-      apart = rw same k.apart;
-      ranges = rw more (ranges_push old.memory.items (from, to) k.ranges k.ends is);
-      ends = rw more (each_push (λ (r : ℕ × ℕ). r.1 ≤ to) old.memory.items (from, to) (end_later from to old.memory.items (omega arith) k.ends) (omega arith));
-      room = let r = k.room in omega arith;
-    }
+before_kept : (old new : Kept) (from to : ℕ) → from < to → new.spans.now ≡ old.spans.now → new.inside ≡ old.inside → FitsBelow from old → FitsBelow to new
+before_kept old new from to some same i k = record { apart = rw same k.apart; room = let r = k.room in omega arith }
 
-before_counted : (old new : Kept) (from to : ℕ) → from < to → new.spans.now ≡ old.spans.now → new.memory.items ≡ old.memory.items → new.inside ≡ old.inside + (to - from) / 8 → LiesBefore from old → LiesBefore to new
-before_counted old new from to some same more i k = record {
-  apart = rw same k.apart;
-  ranges = rw more k.ranges;
-  ends = rw more (end_later from to old.memory.items (omega arith) k.ends);
-  room = let r = k.room in omega arith;
-}
+before_counted : (old new : Kept) (from to : ℕ) → from < to → new.spans.now ≡ old.spans.now → new.inside ≡ old.inside + (to - from) / 8 → FitsBelow from old → FitsBelow to new
+before_counted old new from to some same i k = record { apart = rw same k.apart; room = let r = k.room in omega arith }
 
 -- the places of the range before the cursor were added
-pub record AreKept (range : ℕ × ℕ) (old new : Kept) (cursor : ℕ) : Type 0 where
+pub record AreKept (keeps : ℕ × ℕ → Bool) (range : ℕ × ℕ) (old new : Kept) (cursor : ℕ) : Type 0 where
   pub low : range.0 ≤ cursor
   pub high : cursor ≤ range.1
   pub multiple : cursor % 8 ≡ 0
-  pub adds : Adds (addresses_in (range.0, cursor)) old new
-  pub before : LiesBefore cursor new
+  pub adds : Adds keeps range.0 cursor (addresses_in (range.0, cursor)) old new
+  pub before : FitsBelow cursor new
 
-pub kept_first : (range : ℕ × ℕ) (old : Kept) → IsRange range → LiesBefore range.0 old → AreKept range old old range.0
-kept_first range old is k = record {
+pub kept_first : (keeps : ℕ × ℕ → Bool) (range : ℕ × ℕ) (old : Kept) → IsRange range → FitsBelow range.0 old → AreKept keeps range old old range.0
+kept_first keeps range old is k = record {
   low = omega arith;
   high = let s = is.some in omega arith;
   multiple = is.from_multiple;
-  adds = let z : (range.0 - range.0) / 8 ≡ 0 = omega arith in rw z (adds_none old);
+  adds = let z : (range.0 - range.0) / 8 ≡ 0 = omega arith in rw z (adds_none keeps range.0 range.0 old);
   before = k;
 }
 
-kept_step : (range : ℕ × ℕ) (old new more : Kept) (cursor end : ℕ) → IsRange range → AreKept range old new cursor → cursor < end → end ≤ range.1 → end % 8 ≡ 0
-    → Adds (addresses_in (cursor, end)) new more → LiesBefore end more → AreKept range old more end
-kept_step range old new more cursor end is k some within multiple' adds' before' =
+kept_step : (keeps : ℕ × ℕ → Bool) (range : ℕ × ℕ) (old new more : Kept) (cursor end : ℕ) → IsRange range → AreKept keeps range old new cursor → cursor < end → end ≤ range.1 → end % 8 ≡ 0
+    → Adds keeps cursor end (addresses_in (cursor, end)) new more → FitsBelow end more → AreKept keeps range old more end
+kept_step keeps range old new more cursor end is k some within multiple' adds' before' =
     let low' = k.low in record {
       low = omega arith;
       high = within;
       multiple = multiple';
-      adds = rw (addresses_in-split range.0 cursor end is.from_multiple k.multiple multiple' low' (omega arith)) (adds_more _ _ old new more k.adds adds');
+      adds = rw (addresses_in-split range.0 cursor end is.from_multiple k.multiple multiple' low' (omega arith)) (adds_more keeps range.0 cursor cursor end _ _ old new more low' (omega arith) (omega arith) k.adds adds');
       before = before';
     }
 
 -- places more outside the spans
-pub kept_more : (range : ℕ × ℕ) (old new more : Kept) (cursor end : ℕ) → IsRange range → AreKept range old new cursor → cursor < end → end ≤ range.1 → end % 8 ≡ 0
-    → ((a : ℕ) → cursor ≤ a → a < end → a % 8 ≡ 0 → is_inside new.spans.now a ≡ false) → more.spans.now ≡ new.spans.now → more.memory.items ≡ new.memory.items ++ (cursor, end) ∷ [] → more.inside ≡ new.inside
-    → AreKept range old more end
-kept_more range old new more cursor end is k some within multiple' alike same items i =
-    kept_step range old new more cursor end is k some within multiple' (adds_kept new more cursor end k.multiple alike same items i)
-    (before_kept new more cursor end (record { some = some; from_multiple = k.multiple; to_multiple = multiple' }) same items i k.before)
+pub kept_more : (keeps : ℕ × ℕ → Bool) (range : ℕ × ℕ) (old new more : Kept) (cursor end : ℕ) → IsRange range → AreKept keeps range old new cursor → cursor < end → end ≤ range.1 → end % 8 ≡ 0
+    → ((a : ℕ) → cursor ≤ a → a < end → a % 8 ≡ 0 → is_inside new.spans.now a ≡ false) → more.spans.now ≡ new.spans.now → more.memory.items ≡ new.memory.items ++ filter keeps ((cursor, end) ∷ []) → more.inside ≡ new.inside
+    → AreKept keeps range old more end
+kept_more keeps range old new more cursor end is k some within multiple' alike same items i =
+    kept_step keeps range old new more cursor end is k some within multiple' (adds_kept keeps new more cursor end (record { some = some; from_multiple = k.multiple; to_multiple = multiple' }) alike same items i)
+    (before_kept new more cursor end some same i k.before)
 
 -- places more inside the spans
-pub kept_less : (range : ℕ × ℕ) (old new more : Kept) (cursor end : ℕ) → IsRange range → AreKept range old new cursor → cursor < end → end ≤ range.1 → end % 8 ≡ 0
+pub kept_less : (keeps : ℕ × ℕ → Bool) (range : ℕ × ℕ) (old new more : Kept) (cursor end : ℕ) → IsRange range → AreKept keeps range old new cursor → cursor < end → end ≤ range.1 → end % 8 ≡ 0
     → ((a : ℕ) → cursor ≤ a → a < end → a % 8 ≡ 0 → is_inside new.spans.now a ≡ true) → more.spans.now ≡ new.spans.now → more.memory.items ≡ new.memory.items → more.inside ≡ new.inside + (end - cursor) / 8
-    → AreKept range old more end
-kept_less range old new more cursor end is k some within multiple' alike same items i =
-    kept_step range old new more cursor end is k some within multiple' (adds_counted new more cursor end k.multiple alike same items i)
-    (before_counted new more cursor end some same items i k.before)
+    → AreKept keeps range old more end
+kept_less keeps range old new more cursor end is k some within multiple' alike same items i =
+    kept_step keeps range old new more cursor end is k some within multiple' (adds_counted keeps new more cursor end k.multiple alike same items i)
+    (before_counted new more cursor end some same i k.before)
+
+-- ---- a test that keeps all
+
+pub taken_places : (keeps : ℕ × ℕ → Bool) (from to : ℕ) (places : List ℕ) (old new : Kept) → ((r : ℕ × ℕ) → keeps r ≡ true) → Adds keeps from to places old new
+    → memory_places new.memory.items ≡ memory_places old.memory.items ++ filter (λ a. not (is_inside old.spans.now a)) places
+taken_places keeps from to places old new each adds =
+    ap memory_places (adds.memory ∙ ap (λ (rs : List (ℕ × ℕ)). old.memory.items ++ rs) (keeps_all keeps adds.all each))
+    ∙ flat_map-append addresses_in old.memory.items adds.all
+    ∙ ap (λ (xs : List ℕ). memory_places old.memory.items ++ xs) adds.outside
+
+pub taken_ranges : (keeps : ℕ × ℕ → Bool) (from to : ℕ) (places : List ℕ) (old new : Kept) → Adds keeps from to places old new → AreRanges old.memory.items → EndBy from old.memory.items → AreRanges new.memory.items
+taken_ranges keeps from to places old new adds ranges ends =
+    rw adds.memory (ranges_append from old.memory.items (filter keeps adds.all) ranges ends (ranges_kept keeps adds.all adds.ranges) (each_kept (λ (r : ℕ × ℕ). from ≤ r.0) keeps adds.all adds.begins))
+
+pub taken_ends : (keeps : ℕ × ℕ → Bool) (from to : ℕ) (places : List ℕ) (old new : Kept) → from ≤ to → Adds keeps from to places old new → EndBy from old.memory.items → EndBy to new.memory.items
+taken_ends keeps from to places old new order adds ends =
+    rw adds.memory (each_append (λ (r : ℕ × ℕ). r.1 ≤ to) old.memory.items (filter keeps adds.all) (end_later from to old.memory.items order ends) (each_kept (λ (r : ℕ × ℕ). r.1 ≤ to) keeps adds.all adds.ends))
 
 -- ---- one range after another
 

@@ -8,6 +8,7 @@ pub mod Bridges
 pub mod Spans
 pub mod LeftOut
 pub mod RootPlaces
+pub mod Found
 pub mod Few
 pub mod Numbered
 pub mod Whole

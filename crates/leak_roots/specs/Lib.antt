@@ -10,3 +10,4 @@ pub mod Laws
 pub mod Rows
 pub mod Counts
 pub mod Kept
+pub mod Found

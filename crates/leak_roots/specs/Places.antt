@@ -31,6 +31,10 @@ abbrev pub AreRanges : List (ℕ × ℕ) → Type 0
 AreRanges [] = ⊤
 AreRanges (r ∷ rs) = IsRange r × AllByRecursion (λ s. r.1 ≤ s.0) rs × AreRanges rs
 
+-- ranges that begin at the address or after it
+abbrev pub BeginFrom : ℕ → List (ℕ × ℕ) → Type 0
+BeginFrom addr ranges = AllByRecursion (λ r. addr ≤ r.0) ranges
+
 -- ranges that end at the address or before it
 abbrev pub EndBy : ℕ → List (ℕ × ℕ) → Type 0
 EndBy addr ranges = AllByRecursion (λ r. r.1 ≤ addr) ranges

@@ -4,10 +4,11 @@ ghost use Rattle.std.specs.Prelude.{◌≡◌, ◌+◌, ◌++◌, ◌<◌, ◌�
 ghost use Rattle.leak_blocks.specs.declared.small.Span.{Span};
 ghost use Rattle.leak_blocks.specs.Small.{AreApart};
 ghost use Rattle.leak_roots.specs.Counts.{spans_up_to};
-ghost use Rattle.leak_roots.specs.Kept.{Adds, LiesBefore};
+ghost use Rattle.leak_roots.specs.Kept.{Adds, FitsBelow};
 ghost use Rattle.leak_roots.specs.Places.{memory_places, addresses_in, IsRange, AreRanges};
 ghost use Rattle.leak_roots.specs.Roots.{is_inside};
 
+use crate::range_test::{AllRanges, RangeTest};
 use leak_blocks::Span;
 use std::alloc::{AllocError, Global};
 
@@ -96,10 +97,11 @@ fn stretch_from(spans: &[Span], passed: usize, from: u64, to: u64) -> Stretch
     }
 }
 
-/// The places of ranges that are added by ascending address, without those inside the spans.
+/// The places of ranges that are added by ascending address, without those inside the spans. A test says which ranges of
+/// the others are kept.
 #[derive(Drop)]
 pub(crate) struct Kept<'a> {
-    /// The ranges of the places that aren't inside.
+    /// The ranges that are kept, of places that aren't inside.
     pub(crate) memory: Vec<(u64, u64)>,
     /// How many places were inside.
     pub(crate) inside: u64,
@@ -123,12 +125,18 @@ impl<'a> Kept<'a> {
         }
     }
 
-    /// Adds the places of a range that aren't inside, and counts the others. The spans are passed as the ranges ascend.
-    pub(crate) fn push(&mut self, range: (u64, u64)) -> Result<(), AllocError>
+    /// Adds the places of a range that aren't inside, and counts the others. Where the spans cut the range, each part is
+    /// tested by itself. The spans are passed as the ranges ascend.
+    pub(crate) fn push<T: RangeTest>(
+        &mut self,
+        test: &T,
+        range: (u64, u64),
+    ) -> Result<(), AllocError>
         requires range { IsRange range }
-        requires ascends { LiesBefore range.0 self.old }
-        ensures adds { OnOk result (Adds (addresses_in range) self.old self.new) }
-        ensures before { OnOk result (LiesBefore range.1 self.new) }
+        requires fits { FitsBelow range.0 self.old }
+        ensures adds { let keeps = T.keeps test.now in
+            OnOk result (Adds keeps range.0 range.1 (addresses_in range) self.old self.new) }
+        ensures fits { OnOk result (FitsBelow range.1 self.new) }
         ensures cuts { let spans = self.old.spans.now in OnOk result
             (length self.new.memory.items + spans_up_to spans range.0
             ≤ length self.old.memory.items + spans_up_to spans range.1 + 1) }
@@ -138,7 +146,7 @@ impl<'a> Kept<'a> {
             let stretch = stretch_from(self.spans, self.passed, from, to);
             if stretch.inside {
                 self.inside += (stretch.end - from) / 8;
-            } else {
+            } else if test.keeps((from, stretch.end)) {
                 self.memory.push((from, stretch.end))?;
             }
             from = stretch.end;
@@ -183,7 +191,7 @@ fn keep_others(
     let ahead = count_ahead(memory, spans);
     let mut kept = Kept::new(memory[..ahead].to_vec(alloc)?, spans);
     for k in ahead..memory.len() {
-        kept.push(memory[k])?;
+        kept.push(&AllRanges, memory[k])?;
     }
     Ok((kept.memory, kept.inside))
 }

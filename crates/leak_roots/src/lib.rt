@@ -2,9 +2,10 @@
 //!
 //! [`Roots::find`] takes the register words of all threads, and the words in writable segments, or in all, that share
 //! no byte with a live block: globals, stacks, and what the allocator keeps between blocks. [`Roots`] holds memory as
-//! ranges of addresses, so it is small. [`Roots::pieces`] makes [`Piece`]s of it, units of work of bounded size: it gives each by
-//! its number, and lists none. [`Roots::cut`], which lists them all, and [`Skip::spans`], which takes the spans of freed memory
-//! from the lines of a log, are for libraries and tests.
+//! ranges of addresses, so it is small. [`Roots::find_where`] keeps only the ranges that a [`RangeTest`] keeps.
+//! [`Roots::pieces`] makes [`Piece`]s of it, units of work of bounded size: it gives each by its number, and lists none.
+//! [`Roots::cut`], which lists them all, and [`Skip::spans`], which takes the spans of freed memory from the lines of a log,
+//! are for libraries and tests.
 //!
 //! Registers and writable memory are roots after bdwgc, all readable memory after LeakSanitizer. Own rule: freed memory and
 //! dead stack are roots too, so that no stack limit is read from a register. If the spans of small allocations are given, the
@@ -19,6 +20,7 @@ mod laws;
 mod piece;
 mod pieces;
 mod places;
+mod range_test;
 mod roots;
 mod rows;
 mod skip;
@@ -27,6 +29,7 @@ pub use error::CutError;
 pub use laws::pieces_hold_root_words;
 pub use piece::Piece;
 pub use pieces::Pieces;
+pub use range_test::{AllRanges, RangeTest};
 pub use roots::Roots;
 pub use rows::worked_roots;
-pub use skip::Skip;
+pub use skip::{Exclusions, Skip};

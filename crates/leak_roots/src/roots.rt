@@ -9,6 +9,7 @@ ghost use Rattle.leak_blocks.specs.Small.{AreApart, CoverSame, CoverSameOutside}
 ghost use Rattle.leak_roots.specs.Places.{Places, AreRanges, memory_places};
 ghost use Rattle.leak_roots.specs.LeftOut.{LeftOut, freed_left_out};
 ghost use Rattle.leak_roots.specs.Roots.{AreRootsOf, freed_places, has_roots, is_inside, root_places};
+ghost use Rattle.leak_roots.specs.Found.{AreRootsFoundWhere};
 ghost use Rattle.leak_roots.specs.Pieces.{AreCut};
 ghost use Rattle.leak_roots.specs.Cut.{pieces_of};
 
@@ -17,6 +18,8 @@ use crate::inside::leave_out;
 use crate::piece::{Piece, push_memory, push_registers};
 use crate::pieces::Pieces;
 use crate::places::find_ranges;
+use crate::range_test::{AllRanges, RangeTest};
+use crate::skip::Exclusions;
 use leak_blocks::{Live, SmallSpans, Span};
 use leak_elf::{Image, Rest};
 use leak_notes::Threads;
@@ -81,14 +84,59 @@ impl Roots {
             ≤ length segments + length live.now.blocks + length small.now) }
     {
         let registers = threads.registers().to_vec(alloc)?;
-        let (memory, freed) = find_ranges(alloc, image, live.blocks(), unwritable, small.ranges())?;
-        Ok(Roots {
+        let blocks = live.blocks();
+        let room = blocks.len().saturating_add(image.segments().len());
+        let list = Vec::with_capacity(alloc, room)?;
+        let spans = small.ranges();
+        let found = find_ranges(list, &AllRanges, image, blocks, unwritable, spans)?;
+        Ok(Roots::found(registers, found))
+    }
+
+    /// The same, but keeps only the ranges of memory that the test keeps. Each is tested as it is found, so there is never a
+    /// list of all, which has about as many ranges as there are blocks. Freed places are counted in all memory.
+    pub fn find_where<R: Rest, T: RangeTest>(
+        alloc: Global,
+        image: &Image<'_, R>,
+        threads: &Threads,
+        live: &Live,
+        excluded: &Exclusions<'_>,
+        test: &T,
+    ) -> Result<Roots, AllocError>
+        ensures found { let left = excluded.now in
+            IfOk result (AreRootsFoundWhere (T.keeps test.now) left.unwritable left.small.now
+            image.now threads.now live.now.blocks) }
+        ensures few { let left = excluded.now in
+            let segments = filter (has_roots left.unwritable) (segments_of image.now) in
+            IfOk result (λ roots. length roots.memory
+            ≤ length segments + length live.now.blocks + length left.small.now) }
+    {
+        let registers = threads.registers().to_vec(alloc)?;
+        let Exclusions { small, unwritable } = *excluded;
+        let (blocks, spans) = (live.blocks(), small.ranges());
+        let list = Vec::new(alloc);
+        let found = find_ranges(list, test, image, blocks, unwritable, spans)?;
+        Ok(Roots::found(registers, found))
+    }
+
+    // The root words in these ranges. Of the places that are left out, so many are freed, and none is in dead stack.
+    fn found(registers: Vec<u64>, found: (Vec<(u64, u64)>, u64)) -> Roots
+        requires { AreRanges found.0.items }
+        ensures { result ≡ record {
+          registers = registers.items;
+          memory = found.0.items;
+          freed = found.1;
+          dead = 0;
+          skips_links = false;
+        } }
+    {
+        let (memory, freed) = found;
+        Roots {
             registers,
             memory,
             freed,
             dead: 0,
             skips_links: false,
-        })
+        }
     }
 
     /// The register words.

@@ -24,6 +24,15 @@ pub struct Skip {
     pub unwritable: bool,
 }
 
+/// What is left out of the root words as they are found.
+#[derive(Clone, Copy)]
+pub struct Exclusions<'a> {
+    /// The spans of small allocations whose freed places are left out: those of the log, or none.
+    pub small: &'a SmallSpans,
+    /// Whether the words of memory that can't be written are left out.
+    pub unwritable: bool,
+}
+
 impl Skip {
     /// What a search leaves out unless it is asked to leave out more: the words of memory that can't be written.
     pub fn usual() -> Skip

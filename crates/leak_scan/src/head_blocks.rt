@@ -33,7 +33,7 @@ pub fn heads<W: Words, L: Lookup>(
 }
 
 /// For each block, whether the set leaves it out.
-fn leaked(alloc: Global, set: &[bool]) -> Result<Vec<bool>, AllocError>
+pub fn leaked(alloc: Global, set: &[bool]) -> Result<Vec<bool>, AllocError>
     ensures { IfOk result (λ leaked. leaked.items ≡ map not set.now) }
 {
     // Not collected: that could go on after its first request for room was refused.

@@ -13,7 +13,8 @@
 //! Who lists what all blocks lead to takes the bytes of one block after another from [`BlockRuns`], and what their words lead
 //! to from [`list_run`]. If the memory has the words without zeros, [`kept_in_block`] gives those of a block and [`kept_between`]
 //! those of a range, as long as 0 leads nowhere; [`list_words`] lists what they lead to, and [`lead_somewhere`] asks whether they do.
-//! [`heads`] tells which of the leaked blocks no other leads to. [`Pages::numbers`] and [`Pages::has`] are for libraries and tests.
+//! [`heads`] tells which of the leaked blocks, which [`leaked`] tells, no other leads to. [`Pages::numbers`] and [`Pages::has`]
+//! are for libraries and tests.
 //!
 //! The words of a block are the aligned ones that lie completely inside it, as bdwgc scans an object. Pages of 4096
 //! addresses are those of x86-64. The contracts don't say how much is read.
@@ -34,7 +35,7 @@ mod targets;
 
 pub use block_runs::BlockRuns;
 pub use first::lead_somewhere;
-pub use head_blocks::heads;
+pub use head_blocks::{heads, leaked};
 pub use kept_words::{kept_between, kept_in_block};
 pub use laws::{ranges_lead_less, targets_are_blocks, worked_heads, worked_targets};
 pub use pages::Pages;

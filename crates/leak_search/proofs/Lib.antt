@@ -3,6 +3,7 @@ pub mod InputLemmas
 pub mod PairLemmas
 pub mod SearchLemmas
 pub mod SearchedLemmas
+pub mod ListedLemmas
 pub mod SizeLemmas
 pub mod TwoLemmas
 pub mod WhyLemmas

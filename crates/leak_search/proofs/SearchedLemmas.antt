@@ -43,7 +43,7 @@ pub fits_as : {fits told : Option (Vec Bool Global)} {known : Option (List Bool)
 fits_as same is = ap (option_map (λ (v : Vec Bool Global). v.items)) same ∙ is
 
 -- a search that read, found roots and marked
-marks_one : (core log : List ℕ) (lines : List Line) (reading : Distances) (workers : ℕ) (input : Input) (index : Index) (places : Places) (marked : Marked) (searched : Searched)
+pub marks_one : (core log : List ℕ) (lines : List Line) (reading : Distances) (workers : ℕ) (input : Input) (index : Index) (places : Places) (marked : Marked) (searched : Searched)
     → IsReadOf core log lines input → length input.live.blocks < 2 ^ 32 → index ≡ record { blocks = input.live.blocks; reading = reading }
     → AreRootsOf (left_out input.skip core input.live.blocks lines) core input.live.blocks places → places.skips_links ≡ input.skip.links → MarksFromRoots (word_of core) index places workers marked
     → searched.head ≡ head_with input places None

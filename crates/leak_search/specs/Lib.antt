@@ -6,6 +6,7 @@ pub mod Signs
 pub mod Why
 pub mod Search
 pub mod Searched
+pub mod Listed
 pub mod SearchTwo
 pub mod Laws
 pub mod EndsLaw

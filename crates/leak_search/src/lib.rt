@@ -15,6 +15,8 @@
 //! log that were read one by one, and
 //! [`find_in`] searches it, with the log. Without the log, [`search_from`] does once [`consistency_of_one`] has told which
 //! blocks fit: of what that finds, a [`Searched`], [`found_of`] makes the report. `specs/Searched.antt` says what it is; `specs/Inputs.antt` says what an accepted input is, and which of its faults comes first.
+//! Where the words of a core are to be let go before it is marked, [`list_input`] lists first what they lead to, as a
+//! [`ListedInput`], and [`search_listed`] searches that, with the result of [`search_from`]. `specs/Listed.antt` says what it is.
 //! [`is_continued`] compares two logs, and [`count_lines`] counts the complete lines of one.
 //! [`consistency_of_one`], by a team [`consistency_of_one_by`], and [`consistency_of_two`] say what is odd about inputs. [`find_roots_and_index`] finds the root words, by
 //! [`find_roots`], and makes the lookup, and [`mark_input`] marks blocks over them by workers. [`head_of`] gives the
@@ -41,6 +43,8 @@ mod error;
 mod found;
 mod inputs;
 mod laws;
+mod listed;
+mod listing;
 mod marking;
 mod one_core;
 mod pairs;
@@ -56,6 +60,8 @@ pub use error::{FindError, at_core};
 pub use found::{Found, Searched};
 pub use inputs::{Input, find_roots, input_of, read_input, read_log};
 pub use laws::{leaked_stay_leaked, leaked_stay_leaked_without_ends};
+pub use listed::ListedInput;
+pub use listing::{list_input, search_listed};
 pub use marking::{RootsAndIndex, Workers, find_roots_and_index, mark_input};
 pub use one_core::{find_in, find_one, search_from};
 pub use pairs::{Inputs, count_lines, is_continued, read_two};

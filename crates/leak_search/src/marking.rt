@@ -27,7 +27,8 @@ pub struct Workers<'a, R: Threads + Sync, G: Gate + Sync> {
 impl<'a, R: Threads + Sync, G: Gate + Sync> Workers<'a, R, G> {
     /// The team of these workers, which takes this memory.
     pub fn team(&self, alloc: Global) -> Team<'a, R>
-        ensures { result.workers ≡ self.now.plan.workers }
+        ensures workers { result.workers ≡ self.now.plan.workers }
+        ensures some { 0 < result.workers }
     {
         Team {
             rt: self.rt,

@@ -7,12 +7,12 @@ ghost use Rattle.leak_search.specs.Search.{FindsOne};
 ghost use Rattle.leak_search.specs.Searched.{MarksOne, OfLogs};
 ghost use Rattle.leak_search.specs.Signs.{AreSigns};
 
-use crate::preparing::prepare;
+use crate::preparing::prepare_to_mark;
 use crate::{
-    Consistency, FindError, Found, Input, RootsAndIndex, Rules, Searched, Workers,
-    consistency_of_one_by, found_of, head_of, mark_input, read_input, searched_of,
+    Consistency, FindError, Found, Input, Rules, Searched, Workers, consistency_of_one_by,
+    found_of, mark_input, read_input, searched_of,
 };
-use leak_pool::{Gate, leading_roots};
+use leak_pool::Gate;
 use std::alloc::Global;
 
 /// Searches a core and its log by the rules and by the workers.
@@ -101,11 +101,7 @@ pub fn search_from<R: std::thread::Threads + Sync, G: Gate + Sync>(
     ensures refused { IfErr result (λ e. e ≢ FindError.NoMemory
         → OfLogs input.now (λ log lines. IsFaultOfOne input.now.image log e)) }
 {
-    let RootsAndIndex { roots, lookup } = prepare(workers, alloc, input, rules.reading)?;
-    let head = head_of(input, &roots, None);
-    let team = workers.team(alloc);
-    let roots = leading_roots(&team, &input.image, &lookup, roots, &input.live)?;
-    let indexed = RootsAndIndex { roots, lookup };
+    let (head, indexed) = prepare_to_mark(workers, alloc, input, rules.reading)?;
     let marked = mark_input(workers, alloc, input, &indexed)?;
     Ok(searched_of(alloc, input, &indexed.lookup, marked, head, consistency)?)
 }

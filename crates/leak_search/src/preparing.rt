@@ -1,15 +1,20 @@
 //! What marking begins with.
 
-ghost use Rattle.std.specs.Prelude.{◌≡◌, IfOk, List};
+ghost use Rattle.std.specs.Prelude.{◌≡◌, None, IfOk, IsTrue, List};
 ghost use Rattle.leak_mtrace.specs.declared.line.Line.{Line};
 ghost use Rattle.leak_index.specs.Readings.{distances_of};
 ghost use Rattle.leak_search.specs.Inputs.{AreRootsFor, IsInput};
+ghost use Rattle.leak_search.specs.LeftOut.{LeavesOutFreedAlone};
+ghost use Rattle.leak_search.specs.Listed.{AreLeadingFor};
+ghost use Rattle.leak_search.specs.Report.{head_with};
 
 use crate::inputs::{Input, find_roots};
 use crate::marking::{RootsAndIndex, Workers, find_roots_and_index};
+use crate::reporting::head_of;
 use leak_index::{Paged, Reading};
-use leak_pool::Gate;
-use leak_roots::Roots;
+use leak_pool::{Gate, find_leading_roots, leading_roots};
+use leak_report::Head;
+use leak_roots::{Exclusions, Roots, Skip};
 use std::alloc::{AllocError, Global};
 use std::thread::{Threads, join};
 
@@ -19,7 +24,7 @@ const MANY: usize = 16_384;
 
 /// Finds the root words of an input, and makes the lookup among its blocks: side by side if there are several workers and
 /// many blocks.
-pub(crate) fn prepare<'a, R: Threads + Sync, G: Gate + Sync>(
+fn prepare<'a, R: Threads + Sync, G: Gate + Sync>(
     workers: &Workers<'_, R, G>,
     alloc: Global,
     input: &'a Input<'_>,
@@ -46,4 +51,59 @@ pub(crate) fn prepare<'a, R: Threads + Sync, G: Gate + Sync>(
         roots: roots?,
         lookup: lookup?,
     })
+}
+
+/// Whether nothing but freed memory and memory that can't be written is left out of the root words.
+fn leaves_out_freed_alone(skip: Skip) -> bool
+    ensures { IsTrue result → LeavesOutFreedAlone skip }
+{
+    !skip.slack && !skip.dead && !skip.links
+}
+
+/// Makes the lookup among the blocks of an input, and finds the root words that lead to a block: each range is tested as it is found,
+/// since there are about as many as blocks.
+fn find_leading<'a>(
+    alloc: Global,
+    input: &'a Input<'_>,
+    reading: Reading,
+) -> Result<RootsAndIndex<'a>, AllocError>
+    requires { LeavesOutFreedAlone input.now.skip }
+    ensures leading { (lines : List Line) → IsInput lines input.now → IfOk result (λ indexed.
+        AreLeadingFor lines input.now indexed.lookup (head_with input.now indexed.roots None)
+        indexed.roots) }
+    ensures lookup { IfOk result (λ indexed. indexed.lookup
+        ≡ record { blocks = input.now.live.blocks; reading = distances_of reading }) }
+{
+    let lookup = Paged::new(alloc, &input.live, reading)?;
+    let excluded = Exclusions {
+        small: &input.heap_spans,
+        unwritable: input.skip.unwritable,
+    };
+    let (image, threads, live) = (&input.image, &input.threads, &input.live);
+    let roots = find_leading_roots(alloc, image, threads, live, &excluded, &lookup)?;
+    Ok(RootsAndIndex { roots, lookup })
+}
+
+/// What marking one core begins with, of the root words those that lead to a block; and the numbers of the report's first lines,
+/// which are told of all root words.
+pub(crate) fn prepare_to_mark<'a, R: Threads + Sync, G: Gate + Sync>(
+    workers: &Workers<'_, R, G>,
+    alloc: Global,
+    input: &'a Input<'_>,
+    reading: Reading,
+) -> Result<(Head, RootsAndIndex<'a>), AllocError>
+    ensures leading { (lines : List Line) → IsInput lines input.now → IfOk result (λ begun.
+        AreLeadingFor lines input.now begun.1.lookup begun.0 begun.1.roots) }
+    ensures lookup { IfOk result (λ begun. begun.1.lookup
+        ≡ record { blocks = input.now.live.blocks; reading = distances_of reading }) }
+{
+    if leaves_out_freed_alone(input.skip) {
+        let indexed = find_leading(alloc, input, reading)?;
+        return Ok((head_of(input, &indexed.roots, None), indexed));
+    }
+    let RootsAndIndex { roots, lookup } = prepare(workers, alloc, input, reading)?;
+    let head = head_of(input, &roots, None);
+    let team = workers.team(alloc);
+    let roots = leading_roots(&team, &input.image, &lookup, roots, &input.live)?;
+    Ok((head, RootsAndIndex { roots, lookup }))
 }

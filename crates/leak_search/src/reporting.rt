@@ -42,6 +42,32 @@ pub fn head_of(input: &Input, roots: &Roots, two: Option<Two>) -> Head
     }
 }
 
+/// What a search comes to, by what is marked and which blocks are heads.
+pub(crate) fn searched_by(
+    marked: Marked,
+    heads: Vec<bool>,
+    head: Head,
+    consistency: Consistency,
+) -> Searched
+    ensures { result ≡ record {
+      head = head;
+      set = marked.set;
+      heads = heads;
+      fits = consistency.fits;
+      claims = marked.claims;
+      signs = consistency.signs;
+    } }
+{
+    Searched {
+        head,
+        set: marked.set,
+        heads,
+        fits: consistency.fits,
+        claims: marked.claims,
+        signs: consistency.signs,
+    }
+}
+
 /// What a search comes to whose blocks are marked: the words of the input's core tell which of the others are heads.
 pub fn searched_of<L: Lookup>(
     alloc: Global,
@@ -63,14 +89,7 @@ pub fn searched_of<L: Lookup>(
 {
     let set = marked.set.as_slice();
     let heads = heads(alloc, &input.image, lookup, &input.live, set)?;
-    Ok(Searched {
-        head,
-        set: marked.set,
-        heads,
-        fits: consistency.fits,
-        claims: marked.claims,
-        signs: consistency.signs,
-    })
+    Ok(searched_by(marked, heads, head, consistency))
 }
 
 /// The report of the live blocks that were searched. Their callers are ranges of `log`, whichever bytes these are. If it is known

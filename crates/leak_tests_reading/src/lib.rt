@@ -87,6 +87,10 @@ mod roots_pieces;
 #[cfg(test)]
 mod roots_freed;
 
+// Root words in the ranges that a test keeps.
+#[cfg(test)]
+mod roots_where;
+
 // What malloc gives blocks past their size, and root words without that.
 #[cfg(test)]
 mod slack;

@@ -9,6 +9,6 @@ use Rattle.leak_roots.proofs.places.find_ranges.Given as goal
 abbrev pub invariant-loop-segment : goal.invariant-loop-segment
 invariant-loop-segment g l = record {
   none : HasNone l.spans l.initial.kept;
-  found : AreFound l.unwritable l.image l.blocks l.segment-index l.initial.kept l.kept;
+  found : AreFound (g.T.RangeTest.keeps l.test) l.unwritable l.image l.blocks l.segment-index l.initial.kept l.kept;
   few : AreGapsFew l.unwritable (segments_of l.image) l.blocks l.spans l.segment-index (length l.kept.memory.items);
 }

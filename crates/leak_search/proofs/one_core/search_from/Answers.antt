@@ -16,9 +16,10 @@ returns-in_err-marked-clause-refused g c =
 
 pub returns-clause-marks : goal.returns-clause-marks
 returns-clause-marks g c = λ log lines read.
+    let lead = c.in_ok-head.ensures.leading lines (as_input _ log lines _ read) in
     marks_read log lines _ _ _ c.args.input.now _ _ c.in_ok-marked.marked _ read c.requires.skip c.in_ok-marked.ensures.many.1
-    c.in_ok-roots.ensures.lookup (c.in_ok-roots.ensures.roots lines (as_input _ log lines _ read)) (marks_by_led _ _ _ _ _ _ c.in_ok-roots-2.ensures.led c.in_ok-marked.ensures.marks)
-    (c.in_ok-searched_of.ensures.head ∙ c.head_of-head.ensures)
+    c.in_ok-head.ensures.lookup lead.roots (marks_by_led _ _ _ _ _ _ lead.led c.in_ok-marked.ensures.marks)
+    (c.in_ok-searched_of.ensures.head ∙ lead.head_is)
     c.in_ok-searched_of.ensures.set c.in_ok-searched_of.ensures.heads c.in_ok-searched_of.ensures.claims
 
 pub returns-clause-signs : goal.returns-clause-signs
