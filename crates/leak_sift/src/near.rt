@@ -1,5 +1,5 @@
 //! Whether a place is near a live block.
-ghost use Rattle.std.specs.Prelude.{◌≡◌, ◌+◌, ◌-◌, ◌<◌, ◌≤◌, ℕ, length, slice_index_or, false, IsTrue};
+ghost use Rattle.std.specs.Prelude.{◌≡◌, ◌+◌, ◌-◌, ◌<◌, ◌≤◌, ℕ, Bool, length, slice_index_or, true, false, IsTrue};
 ghost use Rattle.leak_blocks.specs.Span.{AreDisjoint};
 ghost use Rattle.leak_chunks.specs.Fit.{least_chunk};
 ghost use Rattle.leak_index.specs.Ranks.{none};
@@ -44,6 +44,10 @@ fn is_soon_after(blocks: &[Block], place: u64, count: usize) -> bool
 {
     if count > 0 && place < size_place(&blocks[count - 1]) {
         return false;
+    }
+    // (mostly the next block tells; one a few behind it is seldom in the processor's cache)
+    if count < blocks.len() && place < size_place(&blocks[count]) {
+        return true;
     }
     let few = count.saturating_add(FEW);
     few >= blocks.len() || place < size_place(&blocks[few])
@@ -126,6 +130,14 @@ fn next_size_place(blocks: &[Block], count: usize) -> u64
     } else {
         u64::MAX
     }
+}
+
+/// Whether the place is where the size word of the first block behind so many is. It is near that block then.
+pub(crate) fn is_next_size_place(blocks: &[Block], count: usize, place: u64) -> bool
+    ensures within { IsTrue result → count < length blocks.now }
+    ensures near { IsTrue result → (links : Bool) → is_near blocks.now links place ≡ true }
+{
+    count < blocks.len() && place == size_place(&blocks[count])
 }
 
 /// Whether the place is near the block.

@@ -7,7 +7,7 @@ ghost use Rattle.leak_sift.specs.Kept.{is_near, kept_of};
 ghost use Rattle.leak_sift.specs.Passed.{IsRange};
 ghost use Rattle.leak_sift.specs.Sifted.{IsNextKept, run_of};
 
-use crate::near::{calm_end, count_passed, is_near};
+use crate::near::{calm_end, count_passed, is_near, is_next_size_place};
 use crate::words::{count_outside, count_zeros, word_at};
 use leak_blocks::{Block, Live};
 use std::marker::Model;
@@ -102,11 +102,11 @@ impl<'a> Sieve<'a> {
         let mut number = from;
         while number < count {
             let at = 8 * number;
-            let dropped = self.count_dropped(place + at as u64, &bytes[at..]);
-            if dropped > 0 {
-                number += dropped;
-                continue;
+            number += self.count_dropped(place + at as u64, &bytes[at..]);
+            if number == count {
+                return None;
             }
+            let at = 8 * number;
             let word = self.kept(place + at as u64, word_at(bytes, at));
             if word != 0 {
                 return Some((number, word));
@@ -136,13 +136,19 @@ impl<'a> Sieve<'a> {
         ensures near { result ≡ is_near self.old.blocks self.old.links place }
         ensures same { self.new ≡ self.old }
     {
-        self.passed = count_passed(self.blocks, place, self.passed);
-        if is_near(self.blocks, self.links, self.passed, place) {
+        // (most near places are this one, and then no block has to be looked for)
+        if is_next_size_place(self.blocks, self.passed, place) {
+            self.passed += 1;
             return true;
         }
+        self.passed = count_passed(self.blocks, place, self.passed);
+        // (most other places are near no block, which this tells too)
         let end = calm_end(self.blocks, self.links, self.passed, place);
-        self.calm = (place, end);
-        false
+        if place < end {
+            self.calm = (place, end);
+            return false;
+        }
+        is_near(self.blocks, self.links, self.passed, place)
     }
 }
 

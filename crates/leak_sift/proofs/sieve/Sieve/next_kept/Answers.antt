@@ -1,4 +1,4 @@
--- Words more that are dropped, or one that is kept.
+-- Words more that are dropped, and then one that is kept, or one more that is dropped.
 use Rattle.std.proofs.Common.{◌≡◌, ◌*◌, ◌+◌, ◌-◌, ◌/◌, ◌<◌, ◌≤◌, ℕ, List, length, take, drop, get_or, subst, sym, ap, ◌∙◌, arith}
 use Rattle.std.specs.Int.{w64}
 use Rattle.leak_elf.specs.Fields.{number_at}
@@ -17,28 +17,21 @@ module _ (rule : Rule) (place : ℕ) (bytes : List ℕ) (from number : ℕ) (so_
   more_zero : (to : ℕ) → ((k : ℕ) → number ≤ k → k < to → get_or (run_of rule place bytes) k 0 ≡ 0) → AreZero (run_of rule place bytes) from to
   more_zero to next = record { each = λ k h l. either k number (get_or (run_of rule place bytes) k 0 ≡ 0) (λ before. so_far.each k h before) (λ after. next k after l) }
 
-pub loop-number-preserved-then-dropped-gt0 : goal.loop-number-preserved-then-dropped-gt0
-loop-number-preserved-then-dropped-gt0 c =
-    let rule = c.args.self.now in
-    let place = c.args.place in
-    let bytes = c.args.bytes.now in
-    let number = c.loop-number.number in
-    let so_far = c.loop-number.invariant in
-    let dropped = c.count_dropped-dropped.ensures.dropped in
-    let within = c.count_dropped-dropped.ensures.within in
-    record {
-      above = omega arith;
-      below = omega arith;
-      dropped = more_zero rule place bytes c.args.from number so_far.dropped (number + c.count_dropped-dropped.result) (λ k h l.
-          let at : place + 8 * number + 8 * (k - number) ≡ place + 8 * k = omega arith in
-          let there : 8 * number + 8 * (k - number) ≡ 8 * k = omega arith in
-          word rule place bytes k (omega arith)
-          ∙ ap (kept_of rule.blocks rule.links (place + 8 * k)) (sym (number_part bytes (8 * number) (length bytes) (8 * (k - number)) (omega arith) ∙ ap (number_at w64 bytes) there))
-          ∙ ap (λ (r : Rule). kept_of r.blocks r.links (place + 8 * k) (number_at w64 (take (length bytes - 8 * number) (drop (8 * number) bytes)) (8 * (k - number)))) (sym so_far.same)
-          ∙ ap (λ (p : ℕ). kept_of c.loop-number.self.blocks c.loop-number.self.links p (number_at w64 (take (length bytes - 8 * number) (drop (8 * number) bytes)) (8 * (k - number)))) (sym at)
-          ∙ dropped (k - number) (omega arith));
-      same = so_far.same;
-    }
+  -- the bytes from the number on, and what is dropped of them
+  abbrev rest : List ℕ
+  rest = take (length bytes - 8 * number) (drop (8 * number) bytes)
+
+  past : (same : Rule) (dropped : ℕ) → same ≡ rule → number + dropped ≤ length bytes / 8
+      → ((k : ℕ) → k < dropped → kept_of same.blocks same.links (place + 8 * number + 8 * k) (number_at w64 rest (8 * k)) ≡ 0)
+      → AreZero (run_of rule place bytes) from (number + dropped)
+  past same dropped e within none = more_zero (number + dropped) (λ k h l.
+      let at : place + 8 * number + 8 * (k - number) ≡ place + 8 * k = omega arith in
+      let there : 8 * number + 8 * (k - number) ≡ 8 * k = omega arith in
+      word rule place bytes k (omega arith)
+      ∙ ap (kept_of rule.blocks rule.links (place + 8 * k)) (sym (number_part bytes (8 * number) (length bytes) (8 * (k - number)) (omega arith) ∙ ap (number_at w64 bytes) there))
+      ∙ ap (λ (r : Rule). kept_of r.blocks r.links (place + 8 * k) (number_at w64 rest (8 * (k - number)))) (sym e)
+      ∙ ap (λ (p : ℕ). kept_of same.blocks same.links p (number_at w64 rest (8 * (k - number)))) (sym at)
+      ∙ none (k - number) (omega arith))
 
 -- the word that was asked for
 asked : (rule same : Rule) (place : ℕ) (bytes : List ℕ) (number found kept : ℕ) → same ≡ rule → number < length bytes / 8 → found ≡ number_at w64 bytes (8 * number)
@@ -46,26 +39,35 @@ asked : (rule same : Rule) (place : ℕ) (bytes : List ℕ) (number found kept :
 asked rule same place bytes number found kept e inside f g =
     g ∙ ap (λ (r : Rule). kept_of r.blocks r.links (place + 8 * number) found) e ∙ ap (kept_of rule.blocks rule.links (place + 8 * number)) f ∙ sym (word rule place bytes number inside)
 
+pub returns-then-number-count-clause-next : goal.returns-then-number-count-clause-next
+returns-then-number-count-clause-next c =
+    let so_far = c.loop-number.invariant in
+    let all = length-by_words (λ distance word. kept_of c.args.self.now.blocks c.args.self.now.links (c.args.place + distance) word) c.args.bytes.now in
+    let zero = past c.args.self.now c.args.place c.args.bytes.now c.args.from c.loop-number.number so_far.dropped c.loop-number.self c.count_dropped-number.result so_far.same (omega arith) c.count_dropped-number.ensures.dropped in
+    record { each = λ k h l. zero.each k h (omega (arith, all)) }
+
 pub returns-then-word-ne0-clause-next : goal.returns-then-word-ne0-clause-next
 returns-then-word-ne0-clause-next c =
     let so_far = c.loop-number.invariant in
+    let number = c.loop-number.number + c.count_dropped-number.result in
     let all = length-by_words (λ distance word. kept_of c.args.self.now.blocks c.args.self.now.links (c.args.place + distance) word) c.args.bytes.now in (
-      so_far.above,
+      omega arith,
       omega (arith, all),
-      asked c.args.self.now c.loop-number.self c.args.place c.args.bytes.now c.loop-number.number c.word_at.result c.kept-word.result so_far.same c.loop-number-test.true c.word_at.ensures c.kept-word.ensures.kept,
-      so_far.dropped,
+      asked c.args.self.now c.loop-number.self c.args.place c.args.bytes.now number c.word_at.result c.kept-word.result so_far.same (omega arith) c.word_at.ensures c.kept-word.ensures.kept,
+      past c.args.self.now c.args.place c.args.bytes.now c.args.from c.loop-number.number so_far.dropped c.loop-number.self c.count_dropped-number.result so_far.same (omega arith) c.count_dropped-number.ensures.dropped,
       (λ e. omega (arith, e, c.if-word-ne0.true)),
     )
 
 pub loop-number-preserved : goal.loop-number-preserved
 loop-number-preserved c =
     let so_far = c.loop-number.invariant in
-    let number = c.loop-number.number in
-    let is = asked c.args.self.now c.loop-number.self c.args.place c.args.bytes.now number c.word_at.result c.kept-word.result so_far.same c.loop-number-test.true c.word_at.ensures c.kept-word.ensures.kept in
+    let number = c.loop-number.number + c.count_dropped-number.result in
+    let zero = past c.args.self.now c.args.place c.args.bytes.now c.args.from c.loop-number.number so_far.dropped c.loop-number.self c.count_dropped-number.result so_far.same (omega arith) c.count_dropped-number.ensures.dropped in
+    let is = asked c.args.self.now c.loop-number.self c.args.place c.args.bytes.now number c.word_at.result c.kept-word.result so_far.same (omega arith) c.word_at.ensures c.kept-word.ensures.kept in
     record {
       above = omega arith;
       below = omega arith;
-      dropped = more_zero c.args.self.now c.args.place c.args.bytes.now c.args.from number so_far.dropped (number + 1) (λ k h l.
+      dropped = more_zero c.args.self.now c.args.place c.args.bytes.now c.args.from number zero (number + 1) (λ k h l.
           let one : number ≡ k = omega arith in subst (λ (n : ℕ). get_or (run_of c.args.self.now c.args.place c.args.bytes.now) n 0 ≡ 0) one (sym is ∙ c.if-word-ne0.false));
       same = c.kept-word.ensures.same ∙ so_far.same;
     }
