@@ -4,12 +4,13 @@ reach marking.
 
     python3 gate/threads.py PROGRAM [PROGRAM ..]
 
-No report rests on these options, but the number of threads does. A run is traced (ptrace(2)), which tells of each thread that it
-starts, so no count rests on time. The last line is `threads: N passed, M failed`; the status is 1 where something failed.
+The number of threads rests on these options, and no report does: runs that differ by nothing else must write the same. A run is
+traced (ptrace(2)), which tells of each thread that it starts, so no count rests on time. The last line is `threads: N passed, M failed`; the status is 1 where something failed.
 """
 import contextlib
 import ctypes
 import os
+import re
 import signal
 import sys
 import tempfile
@@ -24,6 +25,8 @@ TRACE_ME, GO_ON, SET_OPTIONS = 0, 7, 0x4200
 TELL_OF_THREADS, END_WITH_US = 8, 0x100000
 THREAD_STARTED = 3
 EACH_THREAD = 0x40000000
+# The options on which no report rests.
+OF_THREADS = re.compile(r" --(workers|piece|stack) \d+")
 
 
 def trace(request, process, data=0):
@@ -84,7 +87,7 @@ def end(process):
 
 
 def started_by(program, line, files):
-    """How many threads a run over the files starts, and its exit status; or why that can't be told, and None."""
+    """How many threads a run over the files starts, its exit status and its report; or why that can't be told, and None twice."""
     with tempfile.TemporaryDirectory(prefix="threads-") as folder:
         for name, content in files.items():
             with open(f"{folder}/{name}", "wb") as file:
@@ -93,9 +96,11 @@ def started_by(program, line, files):
         signal.signal(signal.SIGALRM, is_late)
         signal.alarm(SECONDS)
         try:
-            return follow(process)
+            started, status = follow(process)
+            with open(f"{folder}/stdout", "rb") as file:
+                return started, status, file.read()
         except OSError as error:
-            return str(error), None
+            return str(error), None, None
         finally:
             signal.alarm(0)
             end(process)
@@ -177,10 +182,31 @@ def of_long():
     ]
 
 
+def lone_blocks(count):
+    """A core and a log: so many blocks of 8 bytes, and a root word leads to each of the first 40."""
+    starts = [0x14000 + 8 * place for place in range(count)]
+    roots = [word(0x10008 + 8 * place, start) for place, start in enumerate(starts[:40])]
+    log = "".join(f"+ {start:#x} 0x8\n" for start in starts)
+    return {"core.k": core_of(0x26000, *roots), "trace.log": log.encode()}
+
+
+def of_lone():
+    """16,384 blocks that lead nowhere. Each of two workers lists the links of a share of them. Of more, one finds the root words while
+    the others do so. Of the 40 blocks to which root words lead each worker has a share."""
+    return [
+        ("16,384 lone blocks by a worker alone", "--workers 1", 0),
+        ("16,384 lone blocks by two workers", "--workers 2", 1 + 1),
+        ("16,384 lone blocks by three workers", "--workers 3", (1 + 1) + 2),
+        ("16,384 lone blocks by four workers", "--workers 4", (1 + 2) + 3),
+        ("16,384 lone blocks by 64 workers", "--workers 64", (1 + 62) + 39),
+    ]
+
+
 def of_many():
-    """16,384 blocks whose links have no room. Each worker lists links until there is no more, twice: for a listing, and to mark by
-    links. Then they mark over words, and in the first round each scans pieces: of 27 register words, and of a range of 2,048 words.
-    If links to free chunks are left out, a thread finds the root words beside the lookup, unless one worker does all: twice, too."""
+    """16,384 blocks whose links have no room. The workers list links until there is no more, twice: for a listing, beside the root
+    words if they are more than two, and to mark by links. Then they mark over words, and in the first round each scans pieces: of 27
+    register words, and of a range of 2,048 words. If links to free chunks are left out, a thread finds the root words beside the
+    lookup, unless one worker does all: twice, too."""
     return [
         ("16,384 blocks by a worker alone", "--workers 1", 0),
         ("16,384 blocks by two workers", "--workers 2", 2 * 1 + 1),
@@ -233,7 +259,7 @@ def of_holders():
 
 
 def cases():
-    """Each case: its name, its command line, its files, and how many threads it starts."""
+    """Each case: its name, its command line, its files, how many threads it starts, and its exit status."""
     # (the root word stands in the long range behind the block)
     root = word(0x10208, 0x10100)
     block, lines = core(root), b"+ 0x10100 0x20\n"
@@ -249,18 +275,31 @@ def cases():
               (of_long_holders(), "holders core.k trace.log", long),
               (of_short_holders(), "holders core.k trace.log", short), (of_many(), of_one, many_blocks(0x4000)),
               (of_fewer(), of_one, many_blocks(0x3fff))]
-    return [(name, f"{line} {options} --other-heap", files, wanted) for table, line, files in tables for name, options, wanted in table]
+    leaking = [(of_lone(), of_one, lone_blocks(0x4000))]
+    return [(name, f"{line} {options} --other-heap", files, [threads, status]) for status, some in enumerate((tables, leaking))
+            for table, line, files in some for name, options, threads in table]
+
+
+def is_as_before(reports, line, files, report):
+    """Whether a report is that of the first run over the files by the options but those of threads."""
+    return reports.setdefault((id(files), OF_THREADS.sub("", line)), report) == report
 
 
 def main(programs):
     """Makes the runs of each program."""
     passed = failed = 0
+    runs = cases()
     for program in programs:
-        for name, line, files, wanted in cases():
-            got = started_by(os.path.abspath(program), line, files)
-            passed, failed = (passed + 1, failed) if got == (wanted, 0) else (passed, failed + 1)
-            if got != (wanted, 0):
-                print(f"FAILED: {name}, by {program}\n  words: {line}\n  wanted: {(wanted, 0)}, threads and status\n  got: {got}")
+        reports = {}
+        for name, line, files, wanted in runs:
+            *got, report = started_by(os.path.abspath(program), line, files)
+            is_same = is_as_before(reports, line, files, report)
+            if got == wanted and is_same:
+                passed += 1
+                continue
+            failed += 1
+            print(f"FAILED: {name}, by {program}\n  words: {line}\n  wanted: {wanted}, threads and status\n  got: {got}"
+                  + ("" if is_same else "\n  and another report than with other threads"))
     print(f"threads: {passed} passed, {failed} failed")
     return 1 if failed else 0
 

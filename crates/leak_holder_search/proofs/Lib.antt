@@ -3,7 +3,6 @@ pub mod TextLemmas
 pub mod NumberLemmas
 pub mod RowLemmas
 pub mod GraphLemmas
-pub mod FewLemmas
 pub mod FindLemmas
 pub mod BothLemmas
 pub mod HeldLemmas

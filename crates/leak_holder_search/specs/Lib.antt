@@ -1,6 +1,6 @@
 -- The definitions of this crate, by subject.
 pub mod Since
-pub mod Edges
+pub mod Listed
 pub mod Analyses
 pub mod Text
 pub mod Rows

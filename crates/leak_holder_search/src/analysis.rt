@@ -1,30 +1,26 @@
 //! What is marked, and which blocks are counted.
 
-ghost use Rattle.std.specs.Prelude.{◌≡◌, ◌≢◌, ◌<◌, ◌^◌, length, IfOk, IfErr, IsTrue};
+ghost use Rattle.std.specs.Prelude.{◌≡◌, length, IfOk};
 ghost use Rattle.leak_holders.specs.Holders.{AreComplete};
-ghost use Rattle.leak_search.specs.Inputs.{IsRead};
-ghost use Rattle.leak_holder_search.specs.Analyses.{IsAnalysis, IsAnalysisOf, AreRootsAndIndexOf, IsTableOf, texts_in};
-ghost use Rattle.leak_holder_search.specs.Holders.{IsFaultOfHolders};
-ghost use Rattle.leak_holder_search.specs.Since.{earlier, is_continued_from};
+ghost use Rattle.leak_holder_search.specs.Analyses.{IsAnalysis, IsAnalysisOf, IsTableOf, texts_in};
+ghost use Rattle.leak_holder_search.specs.Listed.{IsListed};
 
-use crate::edges::{InputEdges, edges_of};
 use crate::logs::Logs;
 use crate::since::counted;
-use leak_holders::{BlockTable, Progress, Workers, reached_blocks};
+use leak_blocks::Live;
+use leak_holders::{BlockTable, reached_blocks};
 use leak_report::{Texts, number_texts};
-use leak_search::{FindError, Input, RootsAndIndex};
-use leak_team::Team;
-use std::alloc::Global;
-use std::thread::Threads;
+use leak_search::ListedInput;
+use std::alloc::{AllocError, Global};
 
 /// What a question needs to know of an input.
 #[derive(Drop)]
 pub(crate) struct Analysis<'a, 'b> {
     /// The log of the input, and maybe an earlier one.
     pub(crate) logs: Logs<'b>,
-    pub(crate) input: &'a Input<'a>,
-    pub(crate) indexed: &'a RootsAndIndex<'a>,
-    pub(crate) edges: InputEdges<'a>,
+    pub(crate) live: &'a Live,
+    /// What the words of the input lead to.
+    pub(crate) listed: ListedInput,
     /// For each block, whether a chain reaches it.
     pub(crate) set: Vec<bool>,
     /// The texts of the callers, and the number of each block's.
@@ -33,51 +29,24 @@ pub(crate) struct Analysis<'a, 'b> {
     pub(crate) counted: Vec<bool>,
 }
 
-/// The team of these workers, which takes this memory.
-pub(crate) fn team_of<'a, R: Threads + Sync, P: Progress>(
-    workers: &Workers<'a, R, P>,
+/// Marks the blocks of an input over what its words lead to, numbers its texts, and says which blocks are counted. The log is
+/// that of the input.
+pub(crate) fn analysis_of<'a, 'b>(
     alloc: Global,
-) -> Team<'a, R>
-    ensures { result.workers ≡ workers.now.count }
-{
-    Team {
-        rt: workers.rt,
-        alloc,
-        workers: workers.count,
-    }
-}
-
-/// Lists what the words of an input lead to, marks its blocks over these lists, numbers its texts, and says which blocks are counted. The
-/// log is that of the input.
-///
-/// # Errors
-///
-/// `TooMany` if it has more than 2^32 - 1 live blocks. `NoMemory` can come at any time.
-pub(crate) fn analysis_of<'a, 'b, R: Threads + Sync>(
-    team: &Team<'_, R>,
-    input: &'a Input<'a>,
-    indexed: &'a RootsAndIndex<'a>,
+    live: &'a Live,
+    listed: ListedInput,
     logs: &Logs<'b>,
-) -> Result<Analysis<'a, 'b>, FindError>
-    requires read { IsRead input.now.image logs.now.log.now input.now }
-    requires continued { IsTrue (is_continued_from (earlier logs.now.since) logs.now.log.now) }
-    requires of { AreRootsAndIndexOf input.now indexed.now }
-    requires some { 0 < team.now.workers }
-    ensures ok { IfOk result (IsAnalysisOf input.now.image logs.now
-        indexed.now.lookup.reading input.now.skip) }
-    ensures refused { IfErr result (λ e. e ≢ FindError.NoMemory
-        → IsFaultOfHolders input.now.image logs.now.log.now (earlier logs.now.since) e) }
+) -> Result<Analysis<'a, 'b>, AllocError>
+    requires { IsListed live.now listed logs.now }
+    ensures { IfOk result (IsAnalysisOf live.now listed logs.now) }
 {
-    let alloc = team.alloc;
-    let edges = edges_of(team, input, indexed)?;
-    let set = reached_blocks(alloc, &edges.listed, edges.first.as_slice())?;
-    let texts = number_texts(alloc, input.live.blocks(), logs.log)?;
-    let counted = counted(alloc, logs.since, input.live.blocks())?;
+    let set = reached_blocks(alloc, &listed.listing, listed.listing.first())?;
+    let texts = number_texts(alloc, live.blocks(), logs.log)?;
+    let counted = counted(alloc, logs.since, live.blocks())?;
     Ok(Analysis {
         logs: *logs,
-        input,
-        indexed,
-        edges,
+        live,
+        listed,
         set,
         texts,
         counted,
@@ -91,7 +60,7 @@ pub(crate) fn table_of<'a>(analysis: &'a Analysis<'_, '_>) -> BlockTable<'a>
     ensures complete { AreComplete (length (texts_in analysis.now)) result }
 {
     BlockTable {
-        blocks: analysis.input.live.blocks(),
+        blocks: analysis.live.blocks(),
         numbers: analysis.texts.numbers.as_slice(),
         reached: analysis.set.as_slice(),
         counted: analysis.counted.as_slice(),

@@ -46,9 +46,8 @@ fn held_in(alloc: Global, analysis: &Analysis, choice: &Choice) -> Result<Held, 
     requires choice { IsChoice analysis.now choice.now }
     ensures { IfOk result (IsHeld analysis.now choice.now Side.In) }
 {
-    let (edges, table) = (&analysis.edges, table_of(analysis));
-    let (first, set) = (edges.first.as_slice(), choice.set.as_slice());
-    let held = held_blocks(alloc, &edges.listed, first, set)?;
+    let (edges, table) = (&analysis.listed.listing, table_of(analysis));
+    let held = held_blocks(alloc, edges, edges.first(), choice.set.as_slice())?;
     let held = held.as_slice();
     let parts = parts_of(alloc, &table, count_texts(analysis), held)?;
     let told = in_both(alloc, held, table.counted)?;
@@ -66,11 +65,11 @@ fn held_by<R: Threads + Sync, P: Progress>(
     requires choice { IsChoice analysis.now choice.now }
     ensures { IfOk result (IsHeld analysis.now choice.now Side.Of) }
 {
-    let (edges, table) = (&analysis.edges, table_of(analysis));
-    let (first, set) = (edges.first.as_slice(), choice.set.as_slice());
+    let (edges, table) = (&analysis.listed.listing, table_of(analysis));
     let (texts, but) = (count_texts(analysis), table.numbers[choice.block]);
+    let (first, set) = (edges.first(), choice.set.as_slice());
     let graph = BlockGraph {
-        edges: &edges.listed,
+        edges,
         first,
         table,
     };

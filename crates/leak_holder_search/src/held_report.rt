@@ -30,7 +30,7 @@ pub(crate) fn held_text_of(
         (blocks_in analysis.now) choice.now.block choice.now.question.side choice.now.own.items
         held.now.told.items (texts_in analysis.now) held.now.parts.items) }
 {
-    let (live, log) = (&analysis.input.live, analysis.logs.log);
+    let (live, log) = (analysis.live, analysis.logs.log);
     let mut out = Vec::new(alloc);
     let mut buffer = String::new(alloc);
     push_numbered(
@@ -62,7 +62,7 @@ fn push_answer(
         out.extend_from_slice(b"leaked\n")?;
         return Ok(());
     }
-    push_held(out, buffer, &analysis.input.live, held.told.as_slice())?;
+    push_held(out, buffer, analysis.live, held.told.as_slice())?;
     let (side, texts) = (choice.question.side, analysis.texts.texts.as_slice());
     push_parts(out, buffer, side, texts, held.parts.as_slice())
 }

@@ -5,7 +5,8 @@
 //! text that holds a block how many it holds and how many bytes they have, how many of its own blocks are reached, how many
 //! other texts hold all of these, and the address of the first of them, for the question why it is held. With an earlier log of the
 //! same process ([`Files`]) only blocks of later lines are counted. [`find_held`] answers a question about chosen
-//! blocks. [`find_holders_in`] and [`find_held_in`] do the same for an input that was read.
+//! blocks. [`find_holders_in`] and [`find_held_in`] do the same for an input that was read. Its core can be let go once
+//! [`list_for_holders`] listed what its words lead to: [`find_listed_holders`] and [`find_listed_held`] go on from there.
 //!
 //! `specs/Holders.antt` says what the report tells, and `specs/Text.antt` has its lines. For every accepted input, every
 //! number of workers and every cutting of the work the report is the same. If an input is not accepted, the answer is the
@@ -32,10 +33,10 @@
 
 mod analysis;
 mod choosing;
-mod edges;
 mod files;
 mod held;
 mod held_report;
+mod listing;
 mod logs;
 mod question;
 mod ranking;
@@ -45,6 +46,7 @@ mod since;
 
 pub use files::Files;
 pub use leak_holders::{Progress, Silent};
+pub use listing::{ListedCore, list_for_holders};
 pub use logs::Logs;
-pub use question::{find_held, find_held_in};
-pub use search::{Holding, find_holders, find_holders_in};
+pub use question::{find_held, find_held_in, find_listed_held};
+pub use search::{Holding, find_holders, find_holders_in, find_listed_holders};

@@ -1,27 +1,28 @@
 //! What one caller or one block holds, and who holds it.
 
-ghost use Rattle.std.specs.Prelude.{◌≡◌, ◌≢◌, ◌<◌, [], ◌∷◌, IfOk, IfErr};
+ghost use Rattle.std.specs.Prelude.{◌≡◌, ◌≢◌, ◌<◌, [], ◌∷◌, length, IfOk, IfErr};
 ghost use Rattle.leak_index.specs.Readings.{distances_of};
 ghost use Rattle.leak_search.specs.declared.error.FindError.TheVariants.{NoMemory};
 ghost use Rattle.leak_search.specs.Inputs.{IsRead};
 ghost use Rattle.leak_search.specs.Signs.{AreSigns};
-ghost use Rattle.leak_search.specs.declared.why.WhyError.TheVariants.{Find};
+ghost use Rattle.leak_search.specs.declared.why.WhyError.TheVariants.{Find, NoBlock};
+ghost use Rattle.leak_why.specs.Asked.{AreNotAsked};
 ghost use Rattle.leak_holder_search.specs.Held.{FindsHeld, IsHeldFault};
+ghost use Rattle.leak_holder_search.specs.Listed.{IsListed, OfListed};
 ghost use Rattle.leak_holder_search.specs.Since.{earlier};
 
-use crate::analysis::{analysis_of, team_of};
+use crate::analysis::analysis_of;
 use crate::choosing::choice_of;
 use crate::files::Files;
 use crate::held::held_of;
 use crate::held_report::held_text_of;
+use crate::listing::{ListedCore, list_for_holders};
 use crate::logs::Logs;
 use crate::search::Holding;
-use crate::since::is_continued;
+use leak_blocks::Live;
 use leak_holders::{Progress, Question, Workers};
 use leak_pool::Plan;
-use leak_search::{
-    FindError, Input, Rules, WhyError, consistency_of_one_by, find_roots_and_index, read_input,
-};
+use leak_search::{Input, Rules, WhyError, read_input};
 use leak_why::block_at;
 use std::alloc::Global;
 use std::thread::Threads;
@@ -87,21 +88,41 @@ pub fn find_held_in<R: Threads + Sync, P: Progress>(
     ensures refused { IfErr result (λ e. e ≢ Find NoMemory → IsHeldFault input.now.image
         logs.now.log.now (earlier logs.now.since) question.address e) }
 {
-    if !is_continued(logs) {
-        return Err(WhyError::Find(FindError::NotPrefix));
-    }
-    let team = team_of(workers, alloc);
-    let consistency = consistency_of_one_by(&team, input, false, rules.other_heap)?;
-    let indexed = find_roots_and_index(alloc, input, rules.reading)?;
-    let analysis = analysis_of(&team, input, &indexed, logs)?;
-    let Some(block) = block_at(&analysis.input.live, question.address) else {
+    let core = list_for_holders(workers, alloc, input, logs, rules)?;
+    find_listed_held(workers, alloc, &input.live, core, logs, question)
+}
+
+/// Answers a question about the live block of an address, or about all blocks of its text, of an input of whose core
+/// [`list_for_holders`] gave what is needed. The logs are those of the input.
+///
+/// It gives what [`find_held`] gives for the core and the logs.
+///
+/// # Errors
+///
+/// `NoBlock` if no live block has a byte at the address, or begins there, and `NoMemory` at any time.
+pub fn find_listed_held<R: Threads + Sync, P: Progress>(
+    workers: &Workers<'_, R, P>,
+    alloc: Global,
+    live: &Live,
+    core: ListedCore,
+    logs: &Logs,
+    question: Question,
+) -> Result<Holding, WhyError>
+    requires { IsListed live.now core.listed logs.now }
+    ensures ok { IfOk result (λ found. OfListed live.now core.listed logs.now (λ input reading.
+        FindsHeld input.image logs.now.log.now (earlier logs.now.since) reading input.skip question
+        found)) }
+    ensures signs { IfOk result (λ found. found.signs.items ≡ core.signs.items) }
+    ensures refused { IfErr result (λ e. e ≢ Find NoMemory → (e ≡ NoBlock question.address)
+        × AreNotAsked live.now.blocks question.address (length live.now.blocks)) }
+{
+    let ListedCore { listed, signs } = core;
+    let Some(block) = block_at(live, question.address) else {
         return Err(WhyError::NoBlock(question.address));
     };
+    let analysis = analysis_of(alloc, live, listed, logs)?;
     let choice = choice_of(alloc, &analysis, question, block)?;
     let held = held_of(workers, alloc, &analysis, &choice)?;
     let report = held_text_of(alloc, &analysis, &choice, &held)?;
-    Ok(Holding {
-        report,
-        signs: consistency.signs,
-    })
+    Ok(Holding { report, signs })
 }

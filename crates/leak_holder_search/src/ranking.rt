@@ -22,12 +22,11 @@ pub(crate) fn rows_of<R: Threads + Sync, P: Progress>(
     ensures inside { IfOk result (λ rows. AreRowsOf (length (blocks_in analysis.now))
         (length (texts_in analysis.now)) rows.items) }
 {
-    let (edges, table) = (&analysis.edges, table_of(analysis));
-    let (edges, first) = (&edges.listed, edges.first.as_slice());
+    let edges = &analysis.listed.listing;
     let graph = BlockGraph {
         edges,
-        first,
-        table,
+        first: edges.first(),
+        table: table_of(analysis),
     };
     holders(workers, alloc, &graph, count_texts(analysis))
 }

@@ -1,7 +1,6 @@
 //! The report, told.
 ghost use Rattle.std.specs.Prelude.{◌≡◌, ◌++◌, length, flat_map, option_map, string_bytes, IfOk, IfSome, OnOk};
 ghost use Rattle.leak_report.specs.Numbered.{bytes_each};
-ghost use Rattle.leak_search.specs.Report.{head_with};
 ghost use Rattle.leak_holder_search.specs.Analyses.{IsAnalysis, blocks_in, texts_in};
 ghost use Rattle.leak_holder_search.specs.Since.{earlier, news_of};
 ghost use Rattle.leak_holder_search.specs.Text.{AreRowsOf, holder_front, holder_line, holders_text, line_of, new_lines, sums_of};
@@ -11,7 +10,6 @@ use crate::since::new;
 use leak_blocks::{Block, Live};
 use leak_holders::Holder;
 use leak_report::{Head, marked_sizes, push_dead, push_freed, push_head, push_line, push_sizes};
-use leak_search::head_of;
 use std::alloc::{AllocError, Global};
 
 /// Makes the report: its lines, each with its line feed. The rows name blocks and texts by their places.
@@ -24,16 +22,16 @@ pub(crate) fn text(
     requires inside { AreRowsOf (length (blocks_in analysis.now)) (length (texts_in analysis.now))
         rows.now }
     ensures { let a = analysis.now in
-        IfOk result (λ out. out.items ≡ holders_text (head_with a.input.now a.indexed.now.roots None)
-        (blocks_in a) (news_of (earlier a.logs.since) (blocks_in a)) a.set.items (texts_in a)
+        IfOk result (λ out. out.items ≡ holders_text a.listed.head (blocks_in a)
+        (news_of (earlier a.logs.since) (blocks_in a)) a.set.items (texts_in a)
         rows.now) }
 {
-    let (input, texts) = (analysis.input, analysis.texts.texts.as_slice());
-    let head = head_of(input, &analysis.indexed.roots, None);
+    let (live, texts) = (analysis.live, analysis.texts.texts.as_slice());
     let new = new(analysis.logs.since, analysis.counted.as_slice());
-    let first = sums(alloc, &head, &input.live, new, analysis.set.as_slice())?;
+    let head = &analysis.listed.head;
+    let first = sums(alloc, head, live, new, analysis.set.as_slice())?;
     let mut out = first.into_bytes();
-    push_holders(alloc, &mut out, input.live.blocks(), texts, rows)?;
+    push_holders(alloc, &mut out, live.blocks(), texts, rows)?;
     Ok(out)
 }
 

@@ -5,21 +5,21 @@ ghost use Rattle.leak_index.specs.Readings.{distances_of};
 ghost use Rattle.leak_search.specs.Inputs.{IsRead};
 ghost use Rattle.leak_search.specs.Signs.{AreSigns};
 ghost use Rattle.leak_holder_search.specs.Holders.{FindsHolders, IsFaultOfHolders};
+ghost use Rattle.leak_holder_search.specs.Listed.{IsListed, OfListed};
 ghost use Rattle.leak_holder_search.specs.Since.{earlier};
 
-use crate::analysis::{analysis_of, team_of};
+use crate::analysis::analysis_of;
 use crate::files::Files;
+use crate::listing::{ListedCore, list_for_holders};
 use crate::logs::Logs;
 use crate::ranking::rows_of;
 use crate::report::text;
-use crate::since::is_continued;
+use leak_blocks::Live;
 use leak_holders::{Progress, Workers};
 use leak_pool::Plan;
 use leak_report::Signs;
-use leak_search::{
-    FindError, Input, Rules, consistency_of_one_by, find_roots_and_index, read_input,
-};
-use std::alloc::Global;
+use leak_search::{FindError, Input, Rules, read_input};
+use std::alloc::{AllocError, Global};
 use std::thread::Threads;
 
 /// Who holds the memory.
@@ -89,17 +89,30 @@ pub fn find_holders_in<R: Threads + Sync, P: Progress>(
     ensures refused { IfErr result (λ e. e ≢ FindError.NoMemory
         → IsFaultOfHolders input.now.image logs.now.log.now (earlier logs.now.since) e) }
 {
-    if !is_continued(logs) {
-        return Err(FindError::NotPrefix);
-    }
-    let team = team_of(workers, alloc);
-    let consistency = consistency_of_one_by(&team, input, false, rules.other_heap)?;
-    let indexed = find_roots_and_index(alloc, input, rules.reading)?;
-    let analysis = analysis_of(&team, input, &indexed, logs)?;
+    let core = list_for_holders(workers, alloc, input, logs, rules)?;
+    Ok(find_listed_holders(workers, alloc, &input.live, core, logs)?)
+}
+
+/// Tells which texts of callers hold the live blocks of an input, of whose core [`list_for_holders`] gave what is needed. The
+/// logs are those of the input.
+///
+/// It gives what [`find_holders`] gives for the core and the logs. The only error is refused memory.
+pub fn find_listed_holders<R: Threads + Sync, P: Progress>(
+    workers: &Workers<'_, R, P>,
+    alloc: Global,
+    live: &Live,
+    core: ListedCore,
+    logs: &Logs,
+) -> Result<Holding, AllocError>
+    requires { IsListed live.now core.listed logs.now }
+    ensures ok { IfOk result (λ found. OfListed live.now core.listed logs.now (λ input reading.
+        FindsHolders input.image logs.now.log.now (earlier logs.now.since) reading input.skip
+        found)) }
+    ensures signs { IfOk result (λ found. found.signs.items ≡ core.signs.items) }
+{
+    let ListedCore { listed, signs } = core;
+    let analysis = analysis_of(alloc, live, listed, logs)?;
     let rows = rows_of(workers, alloc, &analysis)?;
     let report = text(alloc, &analysis, rows.as_slice())?;
-    Ok(Holding {
-        report,
-        signs: consistency.signs,
-    })
+    Ok(Holding { report, signs })
 }

@@ -1,5 +1,6 @@
 -- What is told of who holds the memory, of what was read in one pass.
 use Rattle.std.proofs.Common.{◌≡◌, ◌≢◌, refl, Some, inl, inr, ℕ, Bool, false, List, [], ◌∷◌, ◌++◌, Err, ap, subst, sym, ◌∙◌, Option}
+use Rattle.std.specs.Prelude.{IsTrue}
 use Rattle.leak_elf.specs.declared.error.ElfError.{ElfError}
 use Rattle.leak_elf.specs.declared.error.ElfError.TheVariants.{NoMemory as NoMemoryForCore}
 use Rattle.leak_elf.specs.Head.{IsHead}
@@ -9,21 +10,29 @@ use Rattle.leak_mtrace.specs.declared.line.Line.{Line}
 use Rattle.leak_mtrace.specs.Log.{IsLog}
 use Rattle.leak_blocks.specs.declared.block.Block.{Block}
 use Rattle.leak_index.specs.Leads.{Distances}
+use Rattle.leak_index.specs.Readings.{distances_of}
 use Rattle.leak_roots.specs.declared.skip.Skip.{Skip}
-use Rattle.leak_sift.specs.Behind.{bytes_behind}
 use Rattle.leak_sift.specs.Kept.{Rule}
 use Rattle.leak_holders.specs.declared.question.Question.{Question}
-use Rattle.leak_search.specs.Inputs.{IsInputFault, IsReadAs, at_core}
+use Rattle.leak_search.specs.Inputs.{IsInputFault, IsRead, IsReadAs, IsReadOf, at_core}
 use Rattle.leak_search.specs.Signs.{AreSigns}
 use Rattle.leak_search.specs.declared.error.FindError.{FindError}
+use Rattle.leak_search.specs.declared.inputs.Input.{Input}
+use Rattle.leak_search.specs.declared.rules.Rules.{Rules}
+use Rattle.leak_search.proofs.InputLemmas.{own_core}
 use Rattle.leak_search.specs.declared.error.FindError.TheVariants.{NoMemory as NoMemoryForAll}
 use Rattle.leak_search.specs.declared.why.WhyError.{WhyError}
 use Rattle.leak_holder_search.specs.Held.{FindsHeld, IsHeldFault}
 use Rattle.leak_holder_search.specs.Holders.{FindsHolders, IsFaultOfHolders}
+use Rattle.leak_holder_search.specs.Listed.{IsListedOf}
+use Rattle.leak_holder_search.specs.Since.{earlier, is_continued_from}
+use Rattle.leak_holder_search.specs.declared.logs.Logs.{Logs}
 use Rattle.leak_holder_search.specs.declared.search.Holding.{Holding}
 use Rattle.leak_alike.specs.SiftedCores.{CanBeSifted, SignsOfSiftedAreOne, rule_of, sifted_core}
 use Rattle.leak_alike.specs.SiftedHolders.{AnswersOfSiftedAreOne, HoldersOfSiftedAreOne, RefusedAnswersOfSiftedAreOne, RefusedHoldersOfSiftedAreOne}
+use Rattle.leak_passing.specs.declared.holding.ListedPassed.{ListedPassed}
 use Rattle.leak_passing.specs.declared.passed.Passed.{Passed}
+use Rattle.leak_passing.specs.Holding.{IsListedOfPassed, file_of}
 use Rattle.leak_passing.specs.Kept.{IsKept, rule_by}
 use Rattle.leak_replaying.specs.Texts.{blocks_of}
 use Rattle.leak_passing.specs.Passed.{IsPassed}
@@ -33,9 +42,10 @@ use Rattle.leak_passing.proofs.FoundLemmas.{lines_of, sifted_file, whole_file}
 pub read_as : (core log : List ℕ) (skip : Skip) (passed : Passed) → IsPassed core log skip passed → IsReadAs skip log passed.read
 read_as core log skip passed is = record { read = is.read; unread = is.unread }
 
--- the core with what is kept of its words
-abbrev pub file_of : Passed → List ℕ
-file_of passed = passed.held.items ++ bytes_behind passed.words passed.len
+-- the input was read of the log that was kept
+pub read_of_kept : (file log kept : List ℕ) (input : Input) → kept ≡ log → IsRead file log input → IsRead input.image kept input
+read_of_kept file log kept input same read =
+    (read.0, subst (λ (l : List ℕ). IsReadOf input.image l read.0 input) (sym same) (own_core file log read.0 input read.1))
 
 module _ (core log : List ℕ) (skip : Skip) (passed : Passed) (is : IsPassed core log skip passed) where
   -- what holds of the core with these words holds of the whole one, if it does so by the blocks of each log,
@@ -106,3 +116,13 @@ pub input_fault : (file log : List ℕ) (error : ElfError) → (error ≢ NoMemo
     → IsInputFault 1 file log (at_core 1 error)
 input_fault file log NoMemoryForCore fault other = absurd (other refl)
 input_fault file log error fault other = (refl, fault (λ same. cc))
+
+-- what was listed is of the log with the earlier one
+pub listed_of : (rules : Rules) (passed : Passed) (it : ListedPassed) (logs : Logs) (is : IsListedOfPassed rules passed (earlier logs.since) it)
+    → logs.log.now ≡ it.log.items → IsListedOf it.live it.core.listed logs is.input (distances_of rules.reading)
+listed_of rules passed it logs is same = record {
+  read = subst (λ (l : List ℕ). IsRead is.input.image l is.input) (sym same) is.read;
+  continued = subst (λ (l : List ℕ). IsTrue (is_continued_from (earlier logs.since) l)) (sym same) is.continued;
+  live_is = is.live_is;
+  lists = is.lists;
+}

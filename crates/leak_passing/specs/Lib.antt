@@ -8,3 +8,4 @@ pub mod ByTexts
 pub mod Prepared
 pub mod Left
 pub mod Passed
+pub mod Holding

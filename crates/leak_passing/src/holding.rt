@@ -8,16 +8,68 @@ ghost use Rattle.leak_search.specs.Signs.{AreSigns};
 ghost use Rattle.leak_holder_search.specs.Held.{FindsHeld, IsHeldFault};
 ghost use Rattle.leak_holder_search.specs.Holders.{FindsHolders, IsFaultOfHolders};
 ghost use Rattle.leak_holder_search.specs.Since.{earlier};
+ghost use Rattle.leak_passing.specs.Holding.{IsListedOfPassed};
 ghost use Rattle.leak_passing.specs.Passed.{IsPassed, OfPassed};
 
 use crate::opening::input_of_passed;
 use crate::passed::Passed;
+use crate::pruning::without_core;
 use leak_alike::{holders_of_sifted_cores, searches_of_sifted_cores};
-use leak_holder_search::{Holding, Logs, Progress, find_held_in, find_holders_in};
+use leak_blocks::Live;
+use leak_holder_search::{
+    Holding, ListedCore, Logs, Progress, find_listed_held, find_listed_holders, list_for_holders,
+};
 use leak_holders::{Question, Workers};
 use leak_search::{FindError, Rules, WhyError};
 use std::alloc::Global;
 use std::thread::Threads;
+
+/// What a question about holders needs of a core and its log that were read in one pass.
+#[derive(Drop)]
+struct ListedPassed {
+    live: Live,
+    core: ListedCore,
+    /// The bytes of the log.
+    log: Vec<u8>,
+}
+
+/// Lists what the words of a core lead to that was read in one pass with its log, by these rules, and lets go of the
+/// core: most memory is taken while it is marked who holds what.
+///
+/// # Errors
+///
+/// Those of [`find_holders`](leak_holder_search::find_holders).
+fn list_passed<R: Threads + Sync, P: Progress>(
+    workers: &Workers<'_, R, P>,
+    alloc: Global,
+    passed: Passed,
+    since: Option<&[u8]>,
+    rules: Rules,
+) -> Result<ListedPassed, FindError>
+    requires passed { (core : List ℕ) × (log : List ℕ) × IsPassed core log rules.skip passed }
+    requires some { 0 < workers.now.count }
+    ensures listed { IfOk result (IsListedOfPassed rules passed (earlier since.entry)) }
+    ensures refused { IfErr result (λ e. e ≢ FindError.NoMemory → OfPassed rules.skip passed
+        (λ core log. IsFaultOfHolders core log (earlier since.entry) e)) }
+{
+    // (a law, for the proof: a sifted core has the refusals of the whole one)
+    holders_of_sifted_cores();
+    let Passed {
+        held,
+        words,
+        len,
+        log,
+        read,
+    } = passed;
+    let input = input_of_passed(alloc, rules.skip, held.as_slice(), (&words, len), read)?;
+    let logs = Logs {
+        log: log.as_slice(),
+        since,
+    };
+    let core = list_for_holders(workers, alloc, &input, &logs, rules)?;
+    let live = without_core(input).live;
+    Ok(ListedPassed { live, core, log })
+}
 
 /// Searches a core and its log that were read in one pass by these rules, and maybe an earlier log, and tells who
 /// holds the memory. It gives what [`find_holders`](leak_holder_search::find_holders) gives for the whole core and the
@@ -45,16 +97,12 @@ pub fn find_passed_holders<R: Threads + Sync, P: Progress>(
     // (laws, for the proof: a sifted core has the answers of the whole one)
     holders_of_sifted_cores();
     searches_of_sifted_cores();
-    let Passed {
-        held,
-        words,
-        len,
-        log,
-        read,
-    } = passed;
-    let (held, log, behind) = (held.as_slice(), log.as_slice(), (&words, len));
-    let input = input_of_passed(alloc, rules.skip, held, behind, read)?;
-    find_holders_in(workers, alloc, &input, &Logs { log, since }, rules)
+    let ListedPassed { live, core, log } = list_passed(workers, alloc, passed, since, rules)?;
+    let logs = Logs {
+        log: log.as_slice(),
+        since,
+    };
+    Ok(find_listed_holders(workers, alloc, &live, core, &logs)?)
 }
 
 /// Searches a core and its log that were read in one pass by these rules, and maybe an earlier log, and answers a
@@ -85,21 +133,10 @@ pub fn find_passed_held<R: Threads + Sync, P: Progress>(
     // (laws, for the proof: a sifted core has the answers of the whole one)
     holders_of_sifted_cores();
     searches_of_sifted_cores();
-    let Passed {
-        held,
-        words,
-        len,
-        log,
-        read,
-    } = passed;
-    let (held, log, behind) = (held.as_slice(), log.as_slice(), (&words, len));
-    let input = input_of_passed(alloc, rules.skip, held, behind, read)?;
-    find_held_in(
-        workers,
-        alloc,
-        &input,
-        &Logs { log, since },
-        question,
-        rules,
-    )
+    let ListedPassed { live, core, log } = list_passed(workers, alloc, passed, since, rules)?;
+    let logs = Logs {
+        log: log.as_slice(),
+        since,
+    };
+    find_listed_held(workers, alloc, &live, core, &logs, question)
 }

@@ -39,7 +39,7 @@ pub(crate) fn row_size(blocks: usize, workers: u32) -> usize
 }
 
 /// How many targets each of so many workers has room for. They are counted in 32 bits.
-pub(crate) fn share_of(room: EdgeRoom, workers: u32) -> u32
+pub fn share_of(room: EdgeRoom, workers: u32) -> u32
     requires { 0 < workers }
     ensures { result ≡ share_of room workers }
 {

@@ -1,13 +1,12 @@
 //! Marks the blocks that chains of words reach from the roots, by worker threads or alone.
 //!
 //! A core that the program passes it lists by [`list_core`], and lets go of: a [`Listing`] has what each block leads to, and the
-//! blocks that root words lead to. The workers of a [`Plan`] mark over that ([`mark_by_listing`]), and [`heads_by_edges`] tells
-//! which of the other blocks are heads. Another core it marks by [`mark_by_edges`]: the workers list first what each block leads
-//! to, and then mark over these lists; if those pass an [`EdgeRoom`], they mark over the words. In the later of two cores it
-//! marks by [`mark_from`], over the words, from blocks that are marked already ([`Start`]). Each gives a [`Marked`]: for each
-//! block whether it is marked, the blocks that each worker claimed, and the number of rounds. To tell who holds the memory, it
-//! lists what each block leads to by [`list_edges`], as [`Listed`], in whatever room that takes, and what the roots lead to by
-//! [`first_blocks`]. Before it lists or marks one core it lets go of the root words that lead nowhere, by [`leading_roots`] and
+//! blocks that root words lead to. Both can also be listed side by side, by [`list_blocks`] and [`first_blocks`]. The workers of
+//! a [`Plan`] mark over that ([`mark_by_listing`]), and [`heads_by_edges`] tells which of the other blocks are heads; who holds
+//! the memory is told by marking over it, too. Another core it marks by [`mark_by_edges`]: the workers list first what each block
+//! leads to, and then mark over these lists; if those pass an [`EdgeRoom`], they mark over the words. In the later of two cores
+//! it marks by [`mark_from`], over the words, from blocks that are marked already ([`Start`]). Each gives a [`Marked`]: for each
+//! block whether it is marked, the blocks that each worker claimed, and the number of rounds. Before it lists or marks one core it lets go of the root words that lead nowhere, by [`leading_roots`] and
 //! the workers of a `leak_team::Team`, or finds only the others, by [`find_leading_roots`]. Where the memory has words without
 //! zeros at once, as a sifted core has, these calls and the listing take no others.
 //!
@@ -30,18 +29,20 @@
 
 mod alone;
 mod appending;
+mod block_lists;
 mod claiming;
 mod door;
 mod edges;
 mod error;
+mod first;
 mod gate;
 mod hand;
 mod items;
 mod later_rounds;
 mod leading;
 mod leading_found;
-mod listed;
 mod listing;
+mod listing_blocks;
 mod listing_core;
 mod listing_heads;
 mod marked;
@@ -63,12 +64,15 @@ mod task;
 mod worker;
 
 pub use alone::mark_alone;
+pub use block_lists::BlockLists;
+pub use edges::share_of;
 pub use error::PoolError;
+pub use first::first_blocks;
 pub use gate::{Gate, Open};
 pub use leading::leading_roots;
 pub use leading_found::find_leading_roots;
-pub use listed::{Listed, first_blocks, list_edges};
 pub use listing::Listing;
+pub use listing_blocks::list_blocks;
 pub use listing_core::list_core;
 pub use listing_heads::heads_by_edges;
 pub use marked::Marked;

@@ -1,4 +1,5 @@
 //! What each live block leads to, and the blocks that root words lead to, as a value that needs no words of the core.
+ghost use Rattle.std.specs.Prelude.{◌≡◌};
 ghost use Rattle.leak_pool.specs.Edges.{AreEdges};
 ghost use Rattle.leak_pool.specs.EdgesLaw.{edges_prop};
 ghost use Rattle.leak_pool.specs.Lists.{AreBlocks, lists_in};
@@ -24,6 +25,15 @@ pub struct Listing {
     pub(crate) rows: Vec<Rows>,
     ghost listed: { AreEdges (lists_in blocks size rows.items) size rows.items } by { edges_prop _ _ _ },
     ghost inside: { AreBlocks blocks first.items (lists_in blocks size rows.items) } by { blocks_prop _ _ _ },
+}
+
+impl Listing {
+    /// The blocks that root words lead to.
+    pub fn first(&self) -> &[u32]
+        ensures { result.now ≡ self.now.first.items }
+    {
+        self.first.as_slice()
+    }
 }
 
 impl HasEdges for Listing {

@@ -9,7 +9,7 @@ use leak_index::{Reading, Sorted};
 use leak_notes::Threads;
 use leak_pool::{
     EdgeRoom, Listing, Open, Plan, PoolError, find_leading_roots, heads_by_edges, list_core,
-    mark_by_listing,
+    mark_by_listing, share_of,
 };
 use leak_roots::Exclusions;
 use leak_team::Team;
@@ -46,14 +46,14 @@ fn list_star<R: AllocGlobal + std::thread::Threads + Sync>(
         alloc,
         workers: 3,
     };
-    let room = EdgeRoom::of_core(&[0u8; 32_000]);
+    let share = share_of(EdgeRoom::of_core(&[0u8; 32_000]), 3);
     Some(list_core(
         &team,
         &input.image,
         &lookup,
         &input.roots,
         &input.live,
-        room,
+        share,
     ))
 }
 

@@ -1,6 +1,6 @@
 -- From an input that was listed to what its search comes to.
-use Rattle.std.proofs.Common.{◌≡◌, ◌∙◌, ℕ, List, Option, None, Some, IfSome, refl, sym, ap, subst}
-use Rattle.std.specs.Prelude.{◌↔◌}
+use Rattle.std.proofs.Common.{◌≡◌, ◌∙◌, ℕ, ◌-◌, ◌^◌, ◌<◌, ◌≤◌, Bool, true, false, ◌&&◌, nat_lt, if◌then◌else◌, arith, length, List, Ok, Option, None, Some, IfSome, refl, sym, ap, subst}
+use Rattle.std.specs.Prelude.{◌↔◌, IsErrOf}
 use Rattle.leak_elf.specs.Words.{word_of}
 use Rattle.leak_mtrace.specs.declared.line.Line.{Line}
 use Rattle.leak_index.specs.Hits.{Index}
@@ -13,13 +13,18 @@ use Rattle.leak_scan.specs.Heads.{heads_of}
 use Rattle.leak_marks.specs.Lists.{Has}
 use Rattle.leak_pool.specs.Leading.{leading}
 use Rattle.leak_pool.specs.LeadingFound.{AreLeadingFound}
-use Rattle.leak_pool.specs.Listing.{IsListingOf}
+use Rattle.leak_blocks.proofs.OrderLemmas.{less_of}
+use Rattle.leak_pool.specs.Edges.{kept_count}
+use Rattle.leak_pool.specs.Listing.{AreWithin, IsListingOf}
+use Rattle.leak_pool.proofs.RowLemmas.{room_kept}
 use Rattle.leak_pool.specs.Marking.{MarksFromRoots, led_by_roots}
+use Rattle.leak_pool.specs.declared.error.PoolError.{PoolError}
+use Rattle.leak_pool.specs.declared.error.PoolError.TheVariants.{TooMany}
 use Rattle.leak_pool.specs.declared.listing.Listing.{Listing}
 use Rattle.leak_pool.specs.declared.marked.Marked.{Marked}
 use Rattle.leak_search.specs.Inputs.{IsInput, IsReadOf}
-use Rattle.leak_search.specs.LeftOut.{LeavesOutFreedAlone, left_out}
-use Rattle.leak_search.specs.Listed.{AreLeadingFor, IsListedBy, index_in}
+use Rattle.leak_search.specs.LeftOut.{LeavesOutFreedAlone, leaves_out_freed_alone, left_out}
+use Rattle.leak_search.specs.Listed.{AreLeadingFor, IsListedBy, has_many_blocks, index_in, listers, share_in}
 use Rattle.leak_search.specs.Report.{head_with}
 use Rattle.leak_search.specs.Searched.{MarksOne}
 use Rattle.leak_search.specs.declared.found.Searched.{Searched}
@@ -87,3 +92,33 @@ module _ (lines : List Line) (input : Input) (alone : LeavesOutFreedAlone input.
     head_is = ap (λ (p : Places). head_with input p None) found.value ∙ same_head (word_of input.image) index found.all;
     led = found.led;
   }
+
+-- ---- room
+
+-- of more than two workers some are left when one finds the root words
+some_left : (lt many alone : Bool) (n : ℕ) → (lt ≡ true → 2 < n) → 0 < n → 0 < (if lt && many && alone then n - 1 else n)
+some_left true true true n two some = let t = two refl in omega (arith, t)
+some_left true true false n two some = some
+some_left true false alone n two some = some
+some_left false many alone n two some = some
+
+some_listers : (input : Input) (workers : ℕ) → 0 < workers → 0 < listers input workers
+some_listers input workers some =
+    some_left (nat_lt 2 workers) (has_many_blocks input.live.blocks) (leaves_out_freed_alone input.skip) workers (λ e. less_of 2 workers e) some
+
+-- what all of them list has room
+pub room_for : (input : Input) (workers : ℕ) (listed : Option ListedInput) → 0 < workers
+    → IfSome listed (λ l. AreWithin (length input.live.blocks) (listers input workers) (share_in (Some input.edges) (listers input workers)) l.listing.rows.items)
+    → IfSome listed (λ l. kept_count l.listing.rows.items ≤ input.edges)
+room_for input workers None some none = none
+room_for input workers (Some l) some within =
+    room_kept (length input.live.blocks) (listers input workers) input.edges l.listing.rows.items (some_listers input workers some) within.count within.each
+
+-- ---- errors
+
+-- an answer is not told as too many blocks
+pub not_told : {T : Type 0} (x : T) (n : ℕ) → IsErrOf {T = T} {E = PoolError} (Ok x) TooMany → 2 ^ 32 - 1 < n
+not_told x n e = absurd (refused x e)
+  where
+    refused : {T : Type 0} (x : T) → IsErrOf {T = T} {E = PoolError} (Ok x) TooMany → ⊥
+    refused x e = cc

@@ -1,5 +1,5 @@
 -- What a search leaves out of the root words of its core, and how much of it the report tells.
-use Rattle.std.specs.Prelude.{◌≡◌, ℕ, false, List, [], length, Option, Some, None, if◌then◌else◌}
+use Rattle.std.specs.Prelude.{◌≡◌, ℕ, Bool, false, not, ◌&&◌, List, [], length, Option, Some, None, if◌then◌else◌}
 use Rattle.leak_elf.specs.Words.{word_of}
 use Rattle.leak_mtrace.specs.declared.line.Line.{Line}
 use Rattle.leak_blocks.specs.declared.block.Block.{Block}
@@ -38,7 +38,11 @@ abbrev pub dead_told : Skip → List ℕ → List Block → List Line → Option
 dead_told skip core blocks lines =
     if skip.dead then Some (length (dead_places (left_out skip core blocks lines) core blocks)) else None
 
--- nothing but freed memory and memory that can't be written is left out of the root words
+-- whether nothing but freed memory and memory that can't be written is left out of the root words
+abbrev pub leaves_out_freed_alone : Skip → Bool
+leaves_out_freed_alone skip = not skip.slack && not skip.dead && not skip.links
+
+-- nothing else is
 pub record LeavesOutFreedAlone (skip : Skip) : Type 0 where
   pub slack : skip.slack ≡ false
   pub dead : skip.dead ≡ false

@@ -1,21 +1,20 @@
 //! The search of one core over lists of what its words lead to, so that the words can be let go before it is marked.
 
-ghost use Rattle.std.specs.Prelude.{◌≡◌, ◌≢◌, length, IfOk, IfErr, IfSome, IfNone};
-ghost use Rattle.leak_elf.specs.Words.{word_of};
+ghost use Rattle.std.specs.Prelude.{◌≡◌, ◌≢◌, ◌↔◌, ◌<◌, ◌≤◌, ◌-◌, ◌^◌, Some, length, IfOk, IfErr, IfSome, IfNone, IsErrOf};
 ghost use Rattle.leak_index.specs.Leads.{Distances};
 ghost use Rattle.leak_index.specs.Readings.{distances_of};
-ghost use Rattle.leak_pool.specs.Edges.{IsOver, row_size, share_of};
-ghost use Rattle.leak_pool.specs.Scopes.{all_targets};
+ghost use Rattle.leak_pool.specs.Edges.{kept_count};
 ghost use Rattle.leak_search.specs.Inputs.{IsFaultOfOne};
-ghost use Rattle.leak_search.specs.Listed.{IsListedInput, index_in};
+ghost use Rattle.leak_search.specs.Listed.{IsListedInput, IsOverIn, index_in, listers, share_in};
 ghost use Rattle.leak_search.specs.Searched.{MarksOne, OfLogs};
 ghost use Rattle.leak_search.specs.declared.inputs.Input.{Input};
 
-use crate::preparing::prepare_to_mark;
+use crate::listing_input::list_within;
 use crate::reporting::searched_by;
 use crate::{Consistency, FindError, Input, ListedInput, Searched, Workers};
 use leak_index::Reading;
-use leak_pool::{Gate, heads_by_edges, list_core, mark_by_listing};
+use leak_pool::{Gate, PoolError, heads_by_edges, mark_by_listing};
+use leak_team::Team;
 use std::alloc::{AllocError, Global};
 
 /// Lists what the live blocks of an input lead to, and its root words. [`search_listed`] needs nothing else of the input's core.
@@ -32,20 +31,41 @@ pub fn list_input<R: std::thread::Threads + Sync, G: Gate + Sync>(
 ) -> Result<Option<ListedInput>, FindError>
     ensures listed { IfOk result (λ listed. IfSome listed
         (IsListedInput input.now (distances_of reading))) }
-    ensures over { let number = workers.now.plan.workers in
-        let size = row_size (length input.now.live.blocks) number in
+    ensures room { IfOk result (λ listed. IfSome listed (λ l.
+        kept_count l.listing.rows.items ≤ input.now.edges)) }
+    ensures over { let number = listers input.now workers.now.plan.workers in
         let index = index_in input.now (distances_of reading) in
-        IfOk result (λ listed. IfNone listed (IsOver
-        (all_targets (word_of input.now.image) index) size (share_of input.now.edges number))) }
+        IfOk result (λ listed. IfNone listed (IsOverIn input.now index number
+        (share_in (Some input.now.edges) number))) }
     ensures refused { IfErr result (λ e. e ≢ FindError.NoMemory
         → OfLogs input.now (λ log lines. IsFaultOfOne input.now.image log e)) }
 {
-    let (head, indexed) = prepare_to_mark(workers, alloc, input, reading)?;
-    let (lookup, roots) = (&indexed.lookup, &indexed.roots);
     let team = workers.team(alloc);
-    match list_core(&team, &input.image, lookup, roots, &input.live, input.edges)? {
-        Some(listing) => Ok(Some(ListedInput { head, listing })),
-        None => Ok(None),
+    let listed = list_within(&team, input, reading, Some(input.edges))?;
+    Ok(listed)
+}
+
+/// Lists the same in whatever room that takes, by the team.
+///
+/// # Errors
+///
+/// `TooMany` if there are more than 2^32 - 1 live blocks. `NoMemory` if memory is refused, or if a worker's share of the blocks
+/// leads to more than 2^32 - 1 blocks.
+pub fn list_whole_input<R: std::thread::Threads + Sync>(
+    team: &Team<'_, R>,
+    input: &Input,
+    reading: Reading,
+) -> Result<ListedInput, PoolError>
+    requires { 0 < team.now.workers }
+    ensures listed { IfOk result (IsListedInput input.now (distances_of reading)) }
+    ensures many { IsErrOf result PoolError.TooMany ↔ (2 ^ 32 - 1 < length input.now.live.blocks) }
+{
+    if input.live.blocks().len() > u32::MAX as usize {
+        return Err(PoolError::TooMany);
+    }
+    match list_within(team, input, reading, None)? {
+        Some(listed) => Ok(listed),
+        None => Err(PoolError::NoMemory),
     }
 }
 

@@ -101,7 +101,7 @@ pub fn search_from<R: std::thread::Threads + Sync, G: Gate + Sync>(
     ensures refused { IfErr result (λ e. e ≢ FindError.NoMemory
         → OfLogs input.now (λ log lines. IsFaultOfOne input.now.image log e)) }
 {
-    let (head, indexed) = prepare_to_mark(workers, alloc, input, rules.reading)?;
+    let (head, indexed) = prepare_to_mark(&workers.team(alloc), input, rules.reading)?;
     let marked = mark_input(workers, alloc, input, &indexed)?;
     Ok(searched_of(alloc, input, &indexed.lookup, marked, head, consistency)?)
 }

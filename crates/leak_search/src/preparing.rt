@@ -4,17 +4,18 @@ ghost use Rattle.std.specs.Prelude.{◌≡◌, None, IfOk, IsTrue, List};
 ghost use Rattle.leak_mtrace.specs.declared.line.Line.{Line};
 ghost use Rattle.leak_index.specs.Readings.{distances_of};
 ghost use Rattle.leak_search.specs.Inputs.{AreRootsFor, IsInput};
-ghost use Rattle.leak_search.specs.LeftOut.{LeavesOutFreedAlone};
-ghost use Rattle.leak_search.specs.Listed.{AreLeadingFor};
+ghost use Rattle.leak_search.specs.LeftOut.{LeavesOutFreedAlone, leaves_out_freed_alone};
+ghost use Rattle.leak_search.specs.Listed.{AreLeadingFor, has_many_blocks};
 ghost use Rattle.leak_search.specs.Report.{head_with};
 
 use crate::inputs::{Input, find_roots};
-use crate::marking::{RootsAndIndex, Workers, find_roots_and_index};
+use crate::marking::{RootsAndIndex, find_roots_and_index};
 use crate::reporting::head_of;
 use leak_index::{Paged, Reading};
-use leak_pool::{Gate, find_leading_roots, leading_roots};
+use leak_pool::{find_leading_roots, leading_roots};
 use leak_report::Head;
 use leak_roots::{Exclusions, Roots, Skip};
+use leak_team::Team;
 use std::alloc::{AllocError, Global};
 use std::thread::{Threads, join};
 
@@ -24,9 +25,8 @@ const MANY: usize = 16_384;
 
 /// Finds the root words of an input, and makes the lookup among its blocks: side by side if there are several workers and
 /// many blocks.
-fn prepare<'a, R: Threads + Sync, G: Gate + Sync>(
-    workers: &Workers<'_, R, G>,
-    alloc: Global,
+fn prepare<'a, R: Threads + Sync>(
+    team: &Team<'_, R>,
     input: &'a Input<'_>,
     reading: Reading,
 ) -> Result<RootsAndIndex<'a>, AllocError>
@@ -35,7 +35,8 @@ fn prepare<'a, R: Threads + Sync, G: Gate + Sync>(
     ensures lookup { IfOk result (λ indexed. indexed.lookup
         ≡ record { blocks = input.now.live.blocks; reading = distances_of reading }) }
 {
-    if workers.plan.workers() < 2 || input.live.blocks().len() < MANY {
+    let alloc = team.alloc;
+    if team.workers < 2 || !has_many_blocks(input) {
         return find_roots_and_index(alloc, input, reading);
     }
     let find = move || -> Result<Roots, AllocError>
@@ -46,49 +47,51 @@ fn prepare<'a, R: Threads + Sync, G: Gate + Sync>(
         ensures { IfOk result (λ lookup. lookup
             ≡ record { blocks = input.entry.now.live.blocks; reading = distances_of reading }) }
     { Paged::new(alloc, &input.live, reading) };
-    let (roots, lookup) = join(workers.rt, find, index);
+    let (roots, lookup) = join(team.rt, find, index);
     Ok(RootsAndIndex {
         roots: roots?,
         lookup: lookup?,
     })
 }
 
+/// Whether an input has so many blocks that a thread is started for its root words.
+pub(crate) fn has_many_blocks(input: &Input) -> bool
+    ensures { result ≡ has_many_blocks input.now.live.blocks }
+{
+    input.live.blocks().len() >= MANY
+}
+
 /// Whether nothing but freed memory and memory that can't be written is left out of the root words.
-fn leaves_out_freed_alone(skip: Skip) -> bool
-    ensures { IsTrue result → LeavesOutFreedAlone skip }
+pub(crate) fn leaves_out_freed_alone(skip: Skip) -> bool
+    ensures value { result ≡ leaves_out_freed_alone skip }
+    ensures alone { IsTrue result → LeavesOutFreedAlone skip }
 {
     !skip.slack && !skip.dead && !skip.links
 }
 
-/// Makes the lookup among the blocks of an input, and finds the root words that lead to a block: each range is tested as it is found,
-/// since there are about as many as blocks.
-fn find_leading<'a>(
+/// Finds the root words of an input that lead to a block: each range is tested as it is found, since there are about as many as
+/// blocks.
+pub(crate) fn find_leading(
     alloc: Global,
-    input: &'a Input<'_>,
-    reading: Reading,
-) -> Result<RootsAndIndex<'a>, AllocError>
+    input: &Input,
+    lookup: &Paged,
+) -> Result<Roots, AllocError>
     requires { LeavesOutFreedAlone input.now.skip }
-    ensures leading { (lines : List Line) → IsInput lines input.now → IfOk result (λ indexed.
-        AreLeadingFor lines input.now indexed.lookup (head_with input.now indexed.roots None)
-        indexed.roots) }
-    ensures lookup { IfOk result (λ indexed. indexed.lookup
-        ≡ record { blocks = input.now.live.blocks; reading = distances_of reading }) }
+    ensures { (lines : List Line) → IsInput lines input.now → IfOk result (λ roots.
+        AreLeadingFor lines input.now lookup.now (head_with input.now roots None) roots) }
 {
-    let lookup = Paged::new(alloc, &input.live, reading)?;
     let excluded = Exclusions {
         small: &input.heap_spans,
         unwritable: input.skip.unwritable,
     };
     let (image, threads, live) = (&input.image, &input.threads, &input.live);
-    let roots = find_leading_roots(alloc, image, threads, live, &excluded, &lookup)?;
-    Ok(RootsAndIndex { roots, lookup })
+    find_leading_roots(alloc, image, threads, live, &excluded, lookup)
 }
 
 /// What marking one core begins with, of the root words those that lead to a block; and the numbers of the report's first lines,
 /// which are told of all root words.
-pub(crate) fn prepare_to_mark<'a, R: Threads + Sync, G: Gate + Sync>(
-    workers: &Workers<'_, R, G>,
-    alloc: Global,
+pub(crate) fn prepare_to_mark<'a, R: Threads + Sync>(
+    team: &Team<'_, R>,
     input: &'a Input<'_>,
     reading: Reading,
 ) -> Result<(Head, RootsAndIndex<'a>), AllocError>
@@ -98,12 +101,13 @@ pub(crate) fn prepare_to_mark<'a, R: Threads + Sync, G: Gate + Sync>(
         ≡ record { blocks = input.now.live.blocks; reading = distances_of reading }) }
 {
     if leaves_out_freed_alone(input.skip) {
-        let indexed = find_leading(alloc, input, reading)?;
-        return Ok((head_of(input, &indexed.roots, None), indexed));
+        let lookup = Paged::new(team.alloc, &input.live, reading)?;
+        let roots = find_leading(team.alloc, input, &lookup)?;
+        let head = head_of(input, &roots, None);
+        return Ok((head, RootsAndIndex { roots, lookup }));
     }
-    let RootsAndIndex { roots, lookup } = prepare(workers, alloc, input, reading)?;
+    let RootsAndIndex { roots, lookup } = prepare(team, input, reading)?;
     let head = head_of(input, &roots, None);
-    let team = workers.team(alloc);
-    let roots = leading_roots(&team, &input.image, &lookup, roots, &input.live)?;
+    let roots = leading_roots(team, &input.image, &lookup, roots, &input.live)?;
     Ok((head, RootsAndIndex { roots, lookup }))
 }

@@ -5,7 +5,7 @@ use crate::pool::samples::claim_count;
 use crate::samples::{core_of, sample_of};
 use leak_index::{Reading, Sorted};
 use leak_pool::{
-    EdgeRoom, Listing, Marked, Open, Plan, heads_by_edges, list_core, mark_by_listing,
+    EdgeRoom, Listing, Marked, Open, Plan, heads_by_edges, list_core, mark_by_listing, share_of,
 };
 use leak_team::Team;
 use std::alloc::AllocGlobal;
@@ -43,8 +43,8 @@ fn listed<R: AllocGlobal + Threads + Sync>(
     if workers == 0 {
         return Ok(None);
     }
-    let (roots, live) = (&sample.roots, &sample.live);
-    Ok(list_core(&team, &sample.image, &lookup, roots, live, room)?)
+    let (roots, live, share) = (&sample.roots, &sample.live, share_of(room, workers));
+    Ok(list_core(&team, &sample.image, &lookup, roots, live, share)?)
 }
 
 /// Ends the test unless the first two blocks are marked, each claimed once.

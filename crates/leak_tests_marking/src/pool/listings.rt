@@ -4,7 +4,8 @@ use crate::appointment::Appointment;
 use crate::comparisons::same;
 use crate::samples::{Sample, core_of, sample_of};
 use leak_index::{Reading, Sorted};
-use leak_pool::{EdgeRoom, Marked, Open, Plan, list_edges, mark_by_edges};
+use leak_pool::{EdgeRoom, Marked, Open, Plan, list_blocks, mark_by_edges};
+use leak_team::Team;
 use std::alloc::AllocGlobal;
 use std::process::Abort;
 use std::test::Fail;
@@ -62,13 +63,19 @@ fn are_listed_at_once<R: AllocGlobal + Threads + Sync + Abort>(
 ) -> Result<(), Fail> {
     let words = Appointment::of(&sample.image, in_runs, 0x10100, 0x10200);
     let lookup = Sorted::new(&sample.live, Reading::interior());
-    let listed = list_edges(rt, rt.alloc(), &words, &lookup, &sample.live, 2)?;
-    assert!(rt; listed.words.is_kept(), "in runs: {in_runs}");
+    let team = Team {
+        rt,
+        alloc: rt.alloc(),
+        workers: 2,
+    };
+    let lists = list_blocks(&team, &words, &lookup, &sample.live, 1000)?;
+    assert!(rt; lists.is_some());
+    assert!(rt; words.is_kept(), "in runs: {in_runs}");
     Ok(())
 }
 
 #[test]
-fn two_workers_list_edges_for_later_at_the_same_time(rt: HostRuntime) -> Result<(), Fail> {
+fn two_workers_list_blocks_at_the_same_time(rt: HostRuntime) -> Result<(), Fail> {
     let alloc = rt.alloc();
     let core = core_of(alloc, &LINKED)?;
     let sample = sample_of(alloc, core.as_slice(), LOG)?;

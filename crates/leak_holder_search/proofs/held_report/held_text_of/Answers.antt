@@ -1,16 +1,15 @@
--- From the lemmas of InputLemmas.
+-- From what is known of the blocks.
 use Rattle.std.proofs.Common.{◌++◌, ◌∙◌, ap, codes, sym, subst, List, ℕ}
 use Rattle.leak_blocks.specs.declared.block.Block.{Block}
 use Rattle.leak_report.specs.Totals.{HaveCallersIn}
 use Rattle.leak_why.specs.Text.{numbered_line}
-use Rattle.leak_search.proofs.InputLemmas.{input_callers}
 use Rattle.leak_holder_search.specs.Analyses.{blocks_in, texts_in}
 use Rattle.leak_holder_search.specs.Held.{held_lines, held_text}
 use Rattle.leak_holder_search.proofs.held_report.held_text_of.Goals as goal
 
 pub push_numbered-requires : goal.push_numbered-requires
 push_numbered-requires c =
-    subst (λ (bs : List Block). HaveCallersIn c.args.analysis.now.logs.log.now bs) (sym c.blocks-2.ensures.value) (input_callers _ _ _ c.requires.known.read)
+    subst (λ (bs : List Block). HaveCallersIn c.args.analysis.now.logs.log.now bs) (sym c.blocks-2.ensures.value) c.requires.known.callers
 
 pub returns : goal.returns
 unfolding held_text

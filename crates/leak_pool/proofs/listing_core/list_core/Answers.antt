@@ -1,34 +1,15 @@
--- From the lemmas of ListingLemmas.
-use Rattle.std.proofs.Common.{◌≡◌, ◌∙◌, ◌-◌, ◌^◌, ◌≤◌, ℕ, List, length, ap, sym, subst, rules, arith}
-use Rattle.leak_blocks.specs.declared.block.Block.{Block}
-use Rattle.leak_marks.specs.Lists.{Has}
-use Rattle.leak_pool.specs.Edges.{AreEdges}
-use Rattle.leak_pool.specs.Scopes.{all_targets}
-use Rattle.leak_pool.proofs.ListingLemmas.{blocks_listed, edges_listed, lists_are, not_many, not_refused}
-use Rattle.leak_pool.proofs.ScopeLemmas.{long_all}
+-- From what each of both lists.
+use Rattle.std.proofs.Common.{Vec, Global, length, subst, sym, rules}
+use Rattle.leak_pool.specs.Listing.{AreListsOf, AreWithin}
+use Rattle.leak_pool.specs.declared.rows.Rows.{Rows}
 use Rattle.leak_pool.proofs.listing_core.list_core.Goals as goal
-
-pub invariant_of-result : goal.invariant_of-result
-invariant_of-result g c =
-    let w = g.W.Words.word_at c.args.words.now in let i = g.L.Lookup.index c.args.lookup.now in
-    let are : AreEdges (all_targets w i) c.row_size-size.result c.in-Some.rows.items = search (c.in_ok-rows.ensures.listed, rules) in
-    let long : length c.blocks-blocks.result.now ≡ length i.blocks = ap (λ (l : List Block). length l) (c.blocks-blocks.ensures.value ∙ sym c.requires.same_blocks) in
-    let live = ap (λ (l : List Block). length l) c.blocks-blocks.ensures.value in
-    record {
-      listed = edges_listed (all_targets w i) _ c.row_size-size.result c.in-Some.rows.items (long ∙ sym (long_all w i)) are;
-      inside = blocks_listed w i _ c.row_size-size.result c.in-Some.rows.items c.in_ok-first.first.items long are (λ b h. let below = c.in_ok-first.ensures.inside b h in omega (arith, below, live));
-    }
 
 pub returns-clause-value : goal.returns-clause-value
 returns-clause-value g c =
-    let w = g.W.Words.word_at c.args.words.now in let i = g.L.Lookup.index c.args.lookup.now in
-    let are : AreEdges (all_targets w i) c.row_size-size.result c.in-Some.rows.items = search (c.in_ok-rows.ensures.listed, rules) in
-    let long : length c.blocks-blocks.result.now ≡ length i.blocks = ap (λ (l : List Block). length l) (c.blocks-blocks.ensures.value ∙ sym c.requires.same_blocks) in
-    let live = ap (λ (l : List Block). length l) c.requires.same_blocks in
-    record {
-      few = not_many (length i.blocks) (length c.args.live.now.blocks) live (λ many. not_refused c.in_ok-first.first (c.in_ok-first.ensures.many.1 many));
-      blocks = long;
-      once = c.in_ok-first.ensures.once;
-      first = c.in_ok-first.ensures.led;
-      targets = lists_are (all_targets w i) _ c.row_size-size.result c.in-Some.rows.items (long ∙ sym (long_all w i)) are;
-    }
+    let lists : AreListsOf (g.W.Words.word_at c.args.words.now) (g.L.Lookup.index c.args.lookup.now) c.in-Some.lists = search (c.in_ok-lists.ensures.value, rules) in
+    c.with_first.ensures.value _ _ _ lists (record { once = c.in_ok-first.ensures.once; led = c.in_ok-first.ensures.led })
+
+pub returns-clause-within : goal.returns-clause-within
+returns-clause-within g c =
+    let within : AreWithin (length c.args.live.now.blocks) c.args.team.now.workers c.args.share c.in-Some.lists.rows.items = search (c.in_ok-lists.ensures.within, rules) in
+    subst (λ (rows : Vec Rows Global). AreWithin (length c.args.live.now.blocks) c.args.team.now.workers c.args.share rows.items) (sym c.with_first.ensures.rows) within
