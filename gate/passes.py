@@ -8,6 +8,8 @@ process has a core of both kinds, and each is read from a file, and from a pipe 
 of which a search may hold no more than what is behind the last line so far. Standard output, standard error and exit
 status must be the same, except that of a core that is cut off or damaged the first reason may differ by its layout.
 
+Each program has cores of its own: the first N from K on, and the next one the N after these.
+
 That an orderly core is passed is seen by its pipe: the log is read before the core's last byte is there. An unorderly
 one is read to its end before there is a log. Core K is always the same one; --keep writes its files. The last line is
 `passes: N passed, M failed`: the cores, and how often there must be what the test is about.
@@ -30,7 +32,7 @@ from cases import ENVIRONMENT, difference, finish
 from layouts import orderly, unorderly
 from random_process import random_process, some
 
-COUNT = 1000
+COUNT = 5000
 SECONDS = 10
 MOST_FAILED = 10  # then the others are not tried
 MOST_AT_ONCE = 16  # Linux grants no user many more pipes of this size
@@ -67,7 +69,7 @@ def packets_of(rng, content):
     last = len(content) - 1
     cuts = {0, max(last, 0)}
     for begin in [rng.randrange(1, last) for _ in range(STEPS // 8)] if last > 1 else []:
-        step = rng.choice((1, 1, 2, 3, 5, 8, 13))
+        step = rng.choice((1, 1, 2, 3, 5, 8, 13, 21, 34, 64))
         cuts.update(range(begin, min(begin + step * rng.randrange(9), last), step))
     cuts = sorted(cuts)
     return [content[begin:end] for begin, end in zip(cuts, cuts[1:] + [len(content)]) if begin < end]
@@ -279,15 +281,16 @@ def run_all(program, numbers, keep=None):
 
 
 def main(words):
-    """Runs the tasks by each program."""
+    """Runs the tasks, as many others by each program."""
     parser = argparse.ArgumentParser()
     parser.add_argument("--count", type=int, default=COUNT)
     parser.add_argument("--first", type=int, default=0)
     parser.add_argument("--keep")
     parser.add_argument("programs", nargs="+", metavar="PROGRAM")
     given = parser.parse_args(words)
-    numbers = range(given.first, given.first + given.count)
-    results = [run_all(os.path.abspath(it), numbers, given.keep) for it in given.programs]
+    firsts = [given.first + given.count * number for number in range(len(given.programs))]
+    results = [run_all(os.path.abspath(it), range(first, first + given.count), given.keep)
+               for it, first in zip(given.programs, firsts)]
     return finish("passes", *map(sum, zip(*results)))
 
 
