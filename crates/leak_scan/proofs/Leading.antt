@@ -1,5 +1,5 @@
 -- Words that lead nowhere may be left out.
-use Rattle.std.proofs.Common.{◌≡◌, ℕ, zero, suc, ◌+◌, ◌<◌, ◌≤◌, Bool, true, false, refl, ap, sym, ◌∙◌, subst, List, [], ◌∷◌, ◌++◌, Option, Some, None, IsSome, true≢false, if◌then◌else◌}
+use Rattle.std.proofs.Common.{◌≡◌, ℕ, zero, suc, ◌+◌, Bool, true, false, refl, ap, sym, ◌∙◌, subst, List, [], ◌∷◌, ◌++◌, Option, Some, None, IsSome, true≢false, if◌then◌else◌}
 use Rattle.std.specs.List.{cons_option}
 use Rattle.leak_index.specs.Hits.{Index, hits_of}
 use Rattle.leak_scan.specs.Targets.{targets_of}

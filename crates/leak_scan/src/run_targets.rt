@@ -1,7 +1,7 @@
 //! Lists what words lead to.
 ghost use Rattle.std.specs.Prelude.{◌≡◌, ◌<◌, ◌≤◌, ◌+◌, ◌++◌, ◌∷◌, [], ◌^◌, length, take, IfOk, IsTrue, IsFalse};
 ghost use Rattle.std.specs.List.{AllByRecursion};
-ghost use Rattle.leak_index.specs.Hits.{hits_in};
+ghost use Rattle.leak_index.specs.Hits.{Index, hits_in, hits_of};
 ghost use Rattle.leak_scan.specs.Targets.{targets_of};
 ghost use Rattle.leak_scan.specs.Positions.{words_in};
 
@@ -28,15 +28,43 @@ pub fn list_run<L: Lookup>(
 {
     // (a law, for the proof: each hit is the number of a block)
     hits_are_blocks();
-    let mut rest = run;
+    let skips = zeros_lead_nowhere(lookup);
+    let mut rest = past_zeros(run, skips);
     while rest.len() >= 8 {
         let (word, others) = split_word(rest);
-        rest = others;
         if !list_hits(lookup.hits(word), room, targets)? {
             return Ok(false);
         }
+        rest = past_zeros(others, skips);
     }
     Ok(true)
+}
+
+/// Whether 0 leads to no block.
+fn zeros_lead_nowhere<L: Lookup>(lookup: &L) -> bool
+    ensures { IsTrue result → hits_of (L.index lookup.now) 0 ≡ [] }
+{
+    match lookup.hits(0) {
+        Hits::Zero => true,
+        _ => false,
+    }
+}
+
+/// The bytes of a run from its first word on that isn't 0, if those before it are to be passed over.
+fn past_zeros(run: &[u8], skips: bool) -> &[u8]
+    ensures led { (index : Index) → (IsTrue skips → hits_of index 0 ≡ [])
+        → targets_of index (words_in result.now) ≡ targets_of index (words_in run.now) }
+    ensures shorter { length result.now ≤ length run.now }
+{
+    let mut rest = run;
+    while skips && rest.len() >= 8 {
+        let (word, others) = split_word(rest);
+        if word != 0 {
+            return rest;
+        }
+        rest = others;
+    }
+    rest
 }
 
 /// Appends what the words of a list lead to, unless that makes more than `room`.

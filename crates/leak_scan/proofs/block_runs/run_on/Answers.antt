@@ -1,5 +1,5 @@
 -- The rest of a run, and none.
-use Rattle.std.proofs.Common.{◌≡◌, ◌∙◌, ◌*◌, ◌+◌, ◌/◌, ◌-◌, ℕ, Option, List, [], length, subst, sym, ap, drop, arith}
+use Rattle.std.proofs.Common.{◌≡◌, ◌∙◌, ◌*◌, ◌/◌, ℕ, List, subst, sym, ap, drop, arith}
 use Rattle.leak_elf.specs.Words.{IsRun}
 use Rattle.leak_scan.proofs.Blocks.{run_dropped}
 use Rattle.leak_scan.proofs.block_runs.run_on.Goals as goal

@@ -1,7 +1,6 @@
 -- Each step keeps what is ahead, except words that lead nowhere.
 use Rattle.std.proofs.Common.{◌∙◌, ap, ◌++◌, sym, refl, []}
 use Rattle.std.specs.Option.{option_copied}
-use Rattle.leak_index.specs.Hits.{hits_in}
 use Rattle.leak_scan.specs.Positions.{listed_word, words_left, words_in, words_found, words_from}
 use Rattle.leak_scan.specs.Targets.{targets_of}
 use Rattle.leak_scan.proofs.Ahead.{list_hit, list_passed, run_hit, run_passed, found_list, found_run, found_word, ahead_none, targets_skip, targets_more}

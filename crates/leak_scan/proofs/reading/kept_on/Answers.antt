@@ -1,5 +1,5 @@
 -- From the lemma of KeptWords.
-use Rattle.std.proofs.Common.{◌<◌, ◌≤◌, ◌+◌, ◌*◌, arith}
+use Rattle.std.proofs.Common.{arith}
 use Rattle.leak_scan.proofs.KeptWords.{read_kept}
 use Rattle.leak_scan.proofs.reading.kept_on.Goals as goal
 

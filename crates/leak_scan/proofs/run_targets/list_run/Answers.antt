@@ -1,5 +1,5 @@
 -- One more word, which fits or does not.
-use Rattle.std.proofs.Common.{◌≡◌, ◌∷◌, ◌^◌, sym, subst, ◌<◌, ℕ, List, length, arith, rules}
+use Rattle.std.proofs.Common.{◌≡◌, ◌∷◌, ◌++◌, ◌∙◌, ◌^◌, sym, ap, subst, ◌<◌, ℕ, List, length, arith, rules}
 use Rattle.std.specs.List.{AllByRecursion}
 use Rattle.leak_scan.specs.Positions.{words_in}
 use Rattle.leak_scan.proofs.Blocks.{word_listed, all_listed, all_over, all_small, kept_on}
@@ -19,7 +19,8 @@ loop-rest-preserved g c =
     record {
       within = c.in_ok-list_hits.ensures.within;
       kept = kept_on c.args.targets.now.items c.loop-rest.targets.items c.list_hits.new.targets.items c.loop-rest.invariant.kept c.in_ok-list_hits.ensures.kept;
-      listed = word_listed index c.loop-rest.targets.items _ _ (words_in c.loop-rest.rest.now) (words_in c.split_word-word.result.1.now) _ c.split_word-word.result.0 more c.hits.ensures (c.in_ok-list_hits.ensures.listed (search rules)) c.loop-rest.invariant.listed;
+      listed = ap (λ (led : List ℕ). c.list_hits.new.targets.items ++ led) (c.past_zeros-rest-in-loop-rest.ensures.led index c.zeros_lead_nowhere-skips.ensures)
+          ∙ word_listed index c.loop-rest.targets.items _ _ (words_in c.loop-rest.rest.now) (words_in c.split_word-word.result.1.now) _ c.split_word-word.result.0 more c.hits.ensures (c.in_ok-list_hits.ensures.listed (search rules)) c.loop-rest.invariant.listed;
     }
 
 pub returns-clause-listed : goal.returns-clause-listed

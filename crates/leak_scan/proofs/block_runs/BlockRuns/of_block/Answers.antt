@@ -1,5 +1,5 @@
 -- The words of the kept run, and those of a new one.
-use Rattle.std.proofs.Common.{◌≡◌, ◌∙◌, ◌*◌, ◌/◌, ap, refl, arith}
+use Rattle.std.proofs.Common.{◌∙◌, ◌*◌, ◌/◌, ap, refl, arith}
 use Rattle.leak_scan.specs.Positions.{words_in}
 use Rattle.leak_scan.proofs.Blocks.{block_taken}
 use Rattle.leak_scan.proofs.block_runs.BlockRuns.of_block.Goals as goal
