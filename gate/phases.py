@@ -54,7 +54,7 @@ CHAIN_BEGUN = rb"rt: leak_scan (proved|is kept)\b"
 # Proofs and wrong bodies give way, for what runs programs goes by the clock.
 PHASES = (
     Phase("proofs", 110, (), (Step(f"{GIVE_WAY} rt ci", ""),)),
-    Phase("cases", 5, (f"{OUT}/leak_cli", f"{OUT}/leak_cli.by-rattle"), (
+    Phase("cases", 15, (f"{OUT}/leak_cli", f"{OUT}/leak_cli.by-rattle"), (
         Step("python3 gate/phases_test.py"),
         Step("python3 gate/again_test.py"),
         Step("python3 gate/cases_test.py"),
