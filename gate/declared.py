@@ -4,6 +4,9 @@ import re
 from typing import NamedTuple
 
 COMMENT = {".rt": "//", ".antt": "--"}
+# Attributes that say how a function is compiled, and nothing of what it does: on a line of its own in sources, behind a head's start in
+# a library's texts.
+HINT = re.compile(r"^[ \t]*#\[(?:inline(?:\(\w+\))?|cold)\]\n|# \[ (?:inline(?: \( \w+ \))?|cold) \] ", re.M)
 WORD = re.compile(r"\w+")
 # A line that imports definitions under names; the heads of a function, of a type and of what is said of one.
 IMPORT = re.compile(r"\bghost use [\w.]+(?:\.\{([^}]*)\}| as (\w+));")
@@ -40,10 +43,11 @@ def files_below(folder):
 
 
 def text_of(path):
-    """Returns the text of a file without the lines that are comments."""
+    """Returns the text of a file without the lines that are comments, and without hints for the compiler."""
     sign = COMMENT.get(os.path.splitext(path)[1])
     with open(path, encoding="utf-8", errors="surrogateescape") as it:
-        return "".join(line for line in it if not (sign and line.lstrip().startswith(sign)))
+        text = "".join(line for line in it if not (sign and line.lstrip().startswith(sign)))
+    return HINT.sub("", text) if path.endswith(".rt") else text
 
 
 def clauses_of(head, lines):

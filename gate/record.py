@@ -15,7 +15,8 @@ whose path stands there, those that stand behind it, and those that these name. 
 only tries a crate again that need not be.
 
 A body that is wrong by a contract stays so whatever becomes of bodies, inner functions and lemmas of the crates below, so these
-count nowhere, nor does a crate that declares nothing, as one of lemmas alone; nor do lines that are comments, but in wrong bodies.
+count nowhere, nor does a crate that declares nothing, as one of lemmas alone; nor do lines that are comments, but in wrong bodies, nor
+attributes by which a function is only compiled otherwise.
 """
 import functools
 import hashlib

@@ -134,6 +134,8 @@ UNREAD = [
     (f"{LOW}/lang/src/lib.rt", "11 ≤", "12 ≤"), (f"{LOW}/lang/src/lib.rt", "≡ 6", "≡ 7"), (f"{LOW}/lang/src/lib.rt", "≡ 7", "≡ 8"),
     ("crates/low/specs/C.antt", "c", "d"), ("crates/low/specs/A.antt", "{three}", "{three}\n-- three"),
     ("crates/sums/src/lib.rt", "fn all", "    /// three\nfn all"), ("crates/sums/specs/F.antt", "f", "-- three\nf"),
+    ("crates/sums/src/lib.rt", "fn all", "    #[inline(always)]\n#[cold]\nfn all"),  # how a function is compiled
+    (f"{LOW}/*/src/lib.rt", "# [ cold ] # [ inline ( always ) ] fn second", "# [ inline ] fn second"),
     ("crates.txt", "sums: low", "lemmas:\nsums: low lemmas"), ("crates.txt", "\nlow:", "\nlow: more")]
 NEW = ("crates/other/src/lib.rt", "README.md", "crates/sums/out/a", "crates/low/wrong/a.edit", "crates/low/src/lib.rt",
        "crates/low/proofs/A.antt", f"{LOW}/toolchain/mir.json")
