@@ -1,5 +1,5 @@
 -- Words that aren't 0, of a file whose first bytes are held.
-use Rattle.std.proofs.Common.{◌≡◌, ◌∙◌, ℕ, zero, suc, ◌+◌, ◌*◌, ◌-◌, ◌%◌, ◌<◌, ◌≤◌, List, ◌++◌, length, get_or, Option, Some, refl, sym, ap, ap₂, subst, arith, eq-eqb}
+use Rattle.std.proofs.Common.{◌≡◌, ◌∙◌, ℕ, zero, suc, ◌+◌, ◌*◌, ◌-◌, ◌%◌, ◌<◌, ◌≤◌, List, ◌++◌, length, get_or, Option, Some, refl, sym, ap, ap₂, arith, eq-eqb}
 use Rattle.leak_elf.specs.declared.segment.Segment.{Segment}
 use Rattle.std.specs.Int.{w64}
 use Rattle.leak_elf.specs.Fields.{number_at}

@@ -15,6 +15,11 @@ by_address s (t ∷ ts) = if nat_lt s.vaddr t.vaddr then s ∷ t ∷ ts else t �
 abbrev pub IsAscending : List Segment → Type 0
 IsAscending segments = (j k : ℕ) (d : Segment) → j ≤ k → k < length segments → (slice_index_or segments j d).vaddr ≤ (slice_index_or segments k d).vaddr
 
+-- the segment with the number is the last that begins at the address or before it
+pub record IsLastUpTo (segments : List Segment) (number addr : ℕ) (d : Segment) : Type 0 where
+  pub begins : (slice_index_or segments number d).vaddr ≤ addr
+  pub last : number + 1 < length segments → addr < (slice_index_or segments (number + 1) d).vaddr
+
 -- those of the second list, one after another, among the first
 abbrev pub ascending : List Segment → List Segment → List Segment
 ascending sorted [] = sorted

@@ -13,7 +13,9 @@ use crate::fields::bytes_from;
 use crate::header::read_headers;
 use crate::refusal::{check_file, check_headers};
 use crate::rest::{NoRest, Rest};
-use crate::search::{find_holders, find_kept, find_next, find_past_zeros, find_run, find_word};
+use crate::search::{
+    find_holders, find_kept, find_largest, find_next, find_past_zeros, find_run, find_word,
+};
 use crate::segment::{NotePart, Segment, kept_parts, sum_undumped};
 use crate::words::Words;
 use std::alloc::Global;
@@ -27,6 +29,8 @@ pub struct Image<'a, R: Rest = NoRest> {
     held: &'a [u8],
     rest: R,
     segments: Vec<Segment>,
+    /// The number of a segment with the most bytes. It helps to find segments, and no answer depends on it.
+    largest: usize,
     holders: Vec<usize>,
     parts: Vec<NotePart>,
 }
@@ -52,11 +56,13 @@ impl<'a, R: Rest> Words for Image<'a, R> {
 
     #[tactic(auto, unfolding(crate::specs::Words::word_of))]
     fn word(&self, addr: u64) -> Option<u64> {
-        find_word(self.held, &self.rest, self.segments.as_slice(), addr)
+        let segments = self.segments.as_slice();
+        find_word(self.held, &self.rest, segments, self.largest, addr)
     }
 
     fn next(&self, from: u64) -> Option<u64> {
-        find_next(self.segments.as_slice(), self.holders.as_slice(), from)
+        let segments = self.segments.as_slice();
+        find_next(segments, self.largest, self.holders.as_slice(), from)
     }
 
     #[tactic(auto, unfolding(crate::specs::Words::word_of))]
@@ -66,6 +72,7 @@ impl<'a, R: Rest> Words for Image<'a, R> {
             self.held,
             &self.rest,
             segments,
+            self.largest,
             self.holders.as_slice(),
             from,
         )
@@ -73,13 +80,14 @@ impl<'a, R: Rest> Words for Image<'a, R> {
 
     #[tactic(auto, unfolding(crate::specs::Words::word_of))]
     fn run(&self, from: u64) -> &[u8] {
-        find_run(self.held, &self.rest, self.segments.as_slice(), from)
+        let segments = self.segments.as_slice();
+        find_run(self.held, &self.rest, segments, self.largest, from)
     }
 
     #[tactic(auto, unfolding(crate::specs::Words::word_of))]
     fn kept(&self, from: u64, count: u64) -> Option<&[u64]> {
         let segments = self.segments.as_slice();
-        find_kept(self.held, &self.rest, segments, from, count)
+        find_kept(self.held, &self.rest, segments, self.largest, from, count)
     }
 
     ghost aligned = { aligned_words };
@@ -121,11 +129,13 @@ impl<'a, R: Rest> Image<'a, R> {
         let len = held.len() as u64 + rest.len();
         let segments = check_headers(alloc, len, headers.as_slice())?;
         let holders = find_holders(alloc, segments.as_slice())?;
+        let largest = find_largest(segments.as_slice());
         let parts = kept_parts(alloc, headers.as_slice())?;
         Ok(Image {
             held,
             rest,
             segments,
+            largest,
             holders,
             parts,
         })

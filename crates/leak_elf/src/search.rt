@@ -3,7 +3,7 @@
 ghost use Rattle.std.specs.Prelude.{◌≡◌, ◌≤◌, ◌+◌, ◌*◌, ◌<◌, ◌%◌, ◌^◌, ◌++◌, ℕ, [], ◌∷◌, length, slice_index_or, IfSome, IfOk, IsSome, IsTrue};
 ghost use Rattle.leak_elf.specs.declared.segment.Segment.{Segment};
 ghost use Rattle.leak_elf.specs.Head.{AreSplit};
-ghost use Rattle.leak_elf.specs.Segments.{IsAscending, IsKeptSegment, AreKeptSegments};
+ghost use Rattle.leak_elf.specs.Segments.{IsAscending, IsLastUpTo, IsKeptSegment, AreKeptSegments};
 ghost use Rattle.leak_elf.specs.Words.{IsRun, word_in, IsNextHeld, IsPastZeros, AreHolders, AreZeros, kept_words};
 
 use crate::fields::u64_at;
@@ -11,8 +11,19 @@ use crate::rest::Rest;
 use crate::segment::Segment;
 use std::alloc::{AllocError, Global};
 
-/// How many segments begin at the address or before it.
-pub(crate) fn count_up_to(segments: &[Segment], addr: u64) -> usize
+/// Whether the segment with the number is the last that begins at the address or before it.
+fn is_last(segments: &[Segment], number: usize, addr: u64) -> bool
+    requires { number < length segments.now }
+    ensures { IsTrue result → (d : Segment) → IsLastUpTo segments.now number addr d }
+{
+    if addr < segments[number].vaddr {
+        return false;
+    }
+    number + 1 == segments.len() || addr < segments[number + 1].vaddr
+}
+
+/// How many segments begin at the address or before it. The guess is the number of the segment that is tried first.
+pub(crate) fn count_up_to(segments: &[Segment], guess: usize, addr: u64) -> usize
     requires { IsAscending segments.now }
     ensures bound { result ≤ length segments.now }
     ensures within { (k : ℕ) (d : Segment) →
@@ -20,7 +31,23 @@ pub(crate) fn count_up_to(segments: &[Segment], addr: u64) -> usize
     ensures beyond { (k : ℕ) (d : Segment) →
         result ≤ k → k < length segments.now → addr < (slice_index_or segments.now k d).vaddr }
 {
+    if guess < segments.len() && is_last(segments, guess, addr) {
+        return guess + 1;
+    }
     segments.partition_point(|segment| segment.vaddr <= addr)
+}
+
+/// The number of a segment that has the most bytes in the file. Most words are asked for in that one, so it is the guess.
+pub(crate) fn find_largest(segments: &[Segment]) -> usize {
+    let mut largest = 0;
+    let mut most = 0;
+    for (number, segment) in segments.iter().enumerate() {
+        if segment.filesz > most {
+            largest = number;
+            most = segment.filesz;
+        }
+    }
+    largest
 }
 
 /// The word at the address.
@@ -28,6 +55,7 @@ pub(crate) fn find_word<R: Rest>(
     held: &[u8],
     rest: &R,
     segments: &[Segment],
+    largest: usize,
     addr: u64,
 ) -> Option<u64>
     requires { AreSplit held.now (R.bytes rest.now) segments.now }
@@ -37,7 +65,7 @@ pub(crate) fn find_word<R: Rest>(
     if addr % 8 != 0 {
         return None;
     }
-    let count = count_up_to(segments, addr);
+    let count = count_up_to(segments, largest, addr);
     if count == 0 {
         return None;
     }
@@ -89,13 +117,18 @@ pub(crate) fn find_holders(alloc: Global, segments: &[Segment]) -> Result<Vec<us
 ///
 /// Of the segments that begin up to `from` only the last can hold it. The table of holders gives the
 /// first of the later ones that can, since tens of thousands in a row may hold no word.
-pub(crate) fn find_next(segments: &[Segment], holders: &[usize], from: u64) -> Option<u64>
+pub(crate) fn find_next(
+    segments: &[Segment],
+    largest: usize,
+    holders: &[usize],
+    from: u64,
+) -> Option<u64>
     requires kept { AreKeptSegments segments.now }
     requires holders { AreHolders segments.now holders.now }
     ensures least { IsNextHeld segments.now from result }
     ensures place { IfSome result (λ addr. (addr % 8 ≡ 0) × (addr + 8 ≤ 2 ^ 64)) }
 {
-    let count = count_up_to(segments, from);
+    let count = count_up_to(segments, largest, from);
     if count > 0 {
         let here = find_next_in(segments[count - 1], from);
         if here.is_some() {
@@ -111,6 +144,7 @@ pub(crate) fn find_past_zeros<R: Rest>(
     held: &[u8],
     rest: &R,
     segments: &[Segment],
+    largest: usize,
     holders: &[usize],
     from: u64,
 ) -> Option<u64>
@@ -119,15 +153,21 @@ pub(crate) fn find_past_zeros<R: Rest>(
     ensures zeros { IsPastZeros (word_in (held.now ++ R.bytes rest.now) segments.now) from result }
     ensures place { IfSome result (λ addr. (addr % 8 ≡ 0) × (addr + 8 ≤ 2 ^ 64)) }
 {
-    let (later, is_word) = pass_zeros(held, rest, segments, from);
+    let (later, is_word) = pass_zeros(held, rest, segments, largest, from);
     if is_word {
         return Some(later);
     }
-    find_next(segments, holders, later)
+    find_next(segments, largest, holders, later)
 }
 
 /// An address up to which the segment has no words but zeros, from `from` on, and whether it is known to have a word.
-fn pass_zeros<R: Rest>(held: &[u8], rest: &R, segments: &[Segment], from: u64) -> (u64, bool)
+fn pass_zeros<R: Rest>(
+    held: &[u8],
+    rest: &R,
+    segments: &[Segment],
+    largest: usize,
+    from: u64,
+) -> (u64, bool)
     requires { AreSplit held.now (R.bytes rest.now) segments.now }
     ensures later { from ≤ result.0 }
     ensures zeros { AreZeros (word_in (held.now ++ R.bytes rest.now) segments.now) from result.0 }
@@ -138,7 +178,7 @@ fn pass_zeros<R: Rest>(held: &[u8], rest: &R, segments: &[Segment], from: u64) -
     if from % 8 != 0 {
         return (from, false);
     }
-    let count = count_up_to(segments, from);
+    let count = count_up_to(segments, largest, from);
     if count == 0 {
         return (from, false);
     }
@@ -164,6 +204,7 @@ pub(crate) fn find_run<'a, R: Rest>(
     held: &'a [u8],
     rest: &R,
     segments: &[Segment],
+    largest: usize,
     from: u64,
 ) -> &'a [u8]
     requires { AreSplit held.now (R.bytes rest.now) segments.now }
@@ -173,7 +214,7 @@ pub(crate) fn find_run<'a, R: Rest>(
     if from % 8 != 0 || segments.is_empty() || held.len() as u64 <= segments[0].offset {
         return &[];
     }
-    let count = count_up_to(segments, from);
+    let count = count_up_to(segments, largest, from);
     if count == 0 {
         return &[];
     }
@@ -195,6 +236,7 @@ pub(crate) fn find_kept<'a, R: Rest>(
     held: &[u8],
     rest: &'a R,
     segments: &[Segment],
+    largest: usize,
     from: u64,
     count: u64,
 ) -> Option<&'a [u64]>
@@ -206,7 +248,7 @@ pub(crate) fn find_kept<'a, R: Rest>(
     if from % 8 != 0 {
         return None;
     }
-    let before = count_up_to(segments, from);
+    let before = count_up_to(segments, largest, from);
     if before == 0 {
         return None;
     }

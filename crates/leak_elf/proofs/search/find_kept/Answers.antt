@@ -1,5 +1,5 @@
 -- From the lemmas of KeptWords.
-use Rattle.std.proofs.Common.{◌≡◌, ℕ, arith, get_or, List, ◌+◌, ◌-◌, ◌*◌, ◌≤◌, ◌/◌, IfSome, false, refl, subst}
+use Rattle.std.proofs.Common.{◌≡◌, ℕ, arith, get_or, List, ◌+◌, ◌-◌, ◌*◌, ◌≤◌, IfSome, false, refl, subst}
 use Rattle.leak_elf.specs.declared.segment.Segment.{Segment}
 use Rattle.leak_elf.proofs.KeptWords.{kept_behind}
 use Rattle.leak_elf.proofs.search.find_kept.Goals as goal

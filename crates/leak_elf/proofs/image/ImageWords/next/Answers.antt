@@ -12,6 +12,6 @@ pub returns-clause-least : goal.returns-clause-least
 returns-clause-least g c =
     let v = c.self.invariant in
     let file = c.self.inside.held.now ++ g.R.Rest.bytes c.self.inside.rest in
-    let slice = c.as_slice.ensures.value in
-    let made = next_readable file c.as_slice.result.now c.args.from empty c.find_next.result (slice ∙ v.1) (subst AreKeptSegments (sym slice) v.3.of_file.kept) c.find_next.ensures.least in
+    let slice = c.as_slice-segments.ensures.value in
+    let made = next_readable file c.as_slice-segments.result.now c.args.from empty c.find_next.result (slice ∙ v.1) (subst AreKeptSegments (sym slice) v.3.of_file.kept) c.find_next.ensures.least in
     rw (← c.self.view_is) made
