@@ -1,5 +1,5 @@
 -- A text at its spaces.
-use Rattle.std.proofs.Common.{◌≡◌, ◌≢◌, ℕ, true, false, ◌⊎◌, inl, inr, refl, sym, subst, ap, ◌∙◌, true≢false, List, [], ◌∷◌, ◌++◌}
+use Rattle.std.proofs.Common.{◌≡◌, ◌≢◌, ℕ, true, ◌⊎◌, inl, inr, refl, sym, subst, ap, ◌∙◌, true≢false, List, [], ◌∷◌, ◌++◌}
 use Rattle.std.specs.List.{AllByRecursion, list_all}
 use Rattle.leak_lemmas.proofs.Bools.{and_right, and_left}
 use Rattle.leak_mtrace.specs.Number.{is_digit}
