@@ -1,5 +1,5 @@
 -- The numbers of a line of the log, as glibc's mtrace prints them.
-use Rattle.std.specs.Prelude.{◌≡◌, ℕ, ◌+◌, ◌-◌, ◌*◌, ◌≤◌, ◌⊎◌, List, ◌∷◌, ◌++◌, length, codes, nat_le, if◌then◌else◌, IsTrue, Bool, ◌&&◌, ◌||◌}
+use Rattle.std.specs.Prelude.{◌≡◌, ℕ, ◌+◌, ◌-◌, ◌*◌, ◌≤◌, ◌⊎◌, List, ◌∷◌, ◌++◌, length, codes, take, drop, nat_le, if◌then◌else◌, IsTrue, Bool, ◌&&◌, ◌||◌}
 use Rattle.std.specs.List.{list_all, fold}
 
 -- 0-9 and a-f
@@ -30,3 +30,7 @@ IsSize text n = ((text ≡ codes "0") × (n ≡ 0)) ⊎ IsHex text n
 -- an address, a space and a size
 abbrev pub IsPair : List ℕ → ℕ → ℕ → Type 0
 IsPair text addr size = (a : List ℕ) × (s : List ℕ) × (text ≡ a ++ 32 ∷ s) × IsAddress a addr × IsSize s size
+
+-- an address before the place, and a size behind it
+abbrev pub IsPairAround : List ℕ → ℕ → ℕ → ℕ → Type 0
+IsPairAround text space addr size = IsAddress (take space text) addr × IsSize (drop (space + 1) text) size

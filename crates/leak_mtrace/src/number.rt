@@ -1,7 +1,7 @@
 //! The numbers of a line.
-ghost use Rattle.std.specs.Prelude.{◌≡◌, IsTrue, SomeIff};
+ghost use Rattle.std.specs.Prelude.{◌≡◌, ◌<◌, length, IsTrue, SomeIff};
 ghost use Rattle.leak_mtrace.specs.Decided.{Decides};
-ghost use Rattle.leak_mtrace.specs.Number.{is_digit, digit_value, IsHex, IsAddress, IsSize, IsPair};
+ghost use Rattle.leak_mtrace.specs.Number.{is_digit, digit_value, IsHex, IsAddress, IsSize, IsPair, IsPairAround};
 
 use memchr::memchr;
 
@@ -72,12 +72,28 @@ pub fn size(text: &[u8]) -> Option<u64>
     }
 }
 
+/// The place of the space behind an address of 12 digits, which most addresses of heaps have.
+const USUAL_SPACE: usize = 14;
+
+/// The address before the place, and the size behind it.
+fn pair_around(text: &[u8], space: usize) -> Option<(u64, u64)>
+    requires { space < length text.now }
+    ensures { Decides (λ p. IsPairAround text.now space p.0 p.1) result }
+{
+    let addr = address(&text[..space])?;
+    let size = size(&text[space + 1..])?;
+    Some((addr, size))
+}
+
 /// An address, a space and a size.
 pub fn address_and_size(text: &[u8]) -> Option<(u64, u64)>
     ensures { Decides (λ p. IsPair text.now p.0 p.1) result }
 {
+    if text.len() > USUAL_SPACE && text[USUAL_SPACE] == b' ' {
+        if let Some(pair) = pair_around(text, USUAL_SPACE) {
+            return Some(pair);
+        }
+    }
     let space = memchr(b' ', text)?;
-    let addr = address(&text[..space])?;
-    let size = size(&text[space + 1..])?;
-    Some((addr, size))
+    pair_around(text, space)
 }

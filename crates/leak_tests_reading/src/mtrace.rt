@@ -62,6 +62,72 @@ fn lines_without_a_place(rt: HostRuntime) {
     are_lines(&rt, &WITHOUT_PLACE);
 }
 
+/// Addresses of several lengths, and each digit.
+static ADDRESSES: [Row; 9] = [
+    ("+ 0x1 0x20", Kind::Alloc, 1, 32, NO_PLACE),
+    (
+        "+ 0x5b0e66d74a0 0x20",
+        Kind::Alloc,
+        0x5b0_e66d_74a0,
+        32,
+        NO_PLACE,
+    ),
+    (
+        "+ 0x55b0e66d74a0 0xff",
+        Kind::Alloc,
+        0x55b0_e66d_74a0,
+        255,
+        NO_PLACE,
+    ),
+    (
+        "> 0x55b0e66d74a0 0",
+        Kind::MoveIn,
+        0x55b0_e66d_74a0,
+        0,
+        NO_PLACE,
+    ),
+    (
+        "+ 0x155b0e66d74a0 0x20",
+        Kind::Alloc,
+        0x1_55b0_e66d_74a0,
+        32,
+        NO_PLACE,
+    ),
+    (
+        "+ 0xfedcba9876543210 0x20",
+        Kind::Alloc,
+        0xfedc_ba98_7654_3210,
+        32,
+        NO_PLACE,
+    ),
+    (
+        "+ 0x0123456789ab 0xcdef",
+        Kind::Alloc,
+        0x0123_4567_89ab,
+        0xcdef,
+        NO_PLACE,
+    ),
+    (
+        "! 0x10100 0x123456789abcdef",
+        Kind::Failed,
+        65792,
+        0x0123_4567_89ab_cdef,
+        NO_PLACE,
+    ),
+    (
+        "+ (nil) 0x123456789",
+        Kind::Alloc,
+        0,
+        0x1_2345_6789,
+        NO_PLACE,
+    ),
+];
+
+#[test]
+fn addresses_of_several_lengths(rt: HostRuntime) {
+    are_lines(&rt, &ADDRESSES);
+}
+
 /// Lines with a place.
 static WITH_PLACE: [Row; 8] = [
     (
@@ -107,7 +173,7 @@ fn lines_with_a_place(rt: HostRuntime) {
 }
 
 /// Lines that mtrace does not write.
-static REFUSED: [&str; 18] = [
+static REFUSED: [&str; 27] = [
     "+ 0x10100",
     "+ 0x10100 20",
     "+  0x10100 0x20",
@@ -117,6 +183,17 @@ static REFUSED: [&str; 18] = [
     "* 0x10100",
     "+ 0x 0x1",
     "+ 0xA 0x1",
+    // each has a byte beside the digits or beside the letters
+    "+ 0x55b0e66d74/0 0x20",
+    "+ 0x55b0e66d74:0 0x20",
+    "+ 0x55b0e66d74`0 0x20",
+    "+ 0x55b0e66d74g0 0x20",
+    "+ 0x55b0e66d74A0 0x20",
+    // the space behind 12 digits is the second, or there is none
+    "+ 0x10100 0x5555 0x20",
+    "+ 0x55b0e66d74a0  0x20",
+    "+ 0x55b0e66d74a0_0x20",
+    "+ 0x55b0e66d74a0 ",
     "- 0x10100\r",
     " - 0x10100",
     "< (null)",
