@@ -41,9 +41,13 @@ pub record AreGroups (groups : List Group) (kept : List ℕ) (len : ℕ) : Type 
 abbrev pub group_count : ℕ → ℕ
 group_count places = (places + 63) / 64
 
+-- with empty groups at the end, until there are so many
+abbrev pub padded : List Group → ℕ → ℕ → List Group
+padded groups count before = groups ++ replicate (count - length groups) (empty before)
+
 -- with empty groups at the end, until there are enough for this many places
 abbrev pub covered : List Group → ℕ → ℕ → List Group
-covered groups places before = groups ++ replicate (group_count places - length groups) (empty before)
+covered groups places before = padded groups (group_count places) before
 
 -- a group before which this many words more are kept
 abbrev pub moved : ℕ → Group → Group

@@ -3,7 +3,7 @@ ghost use Rattle.std.specs.Prelude.{◌≡◌, ◌+◌, ◌%◌, ◌^◌, ◌<�
 ghost use Rattle.std.specs.Prelude.{All, MatchOption, is_ok, IsOk, IsTrue, vec_len, vec_capacity};
 ghost use Rattle.std.specs.Int.{bit_at};
 ghost use Rattle.leak_sparse.specs.Bits.{IsLowestFrom, NoneFrom};
-ghost use Rattle.leak_sparse.specs.Groups.{covered, group_count, moved};
+ghost use Rattle.leak_sparse.specs.Groups.{covered, group_count, moved, padded};
 
 use std::alloc::AllocError;
 
@@ -48,17 +48,29 @@ pub(crate) fn lowest_from(bits: u64, from: usize) -> Option<usize>
 }
 
 /// Adds groups of which no word is kept, until there are enough for this many places.
-#[inline]
+#[inline(always)]
 pub(crate) fn cover(groups: &mut Vec<Group>, places: usize, before: usize) -> Result<(), AllocError>
     ensures items { groups.new.items ≡
         (if is_ok result then covered groups.old.items places before else groups.old.items) }
     ensures room { group_count places ≤ length groups.old.items → IsOk result }
 {
     let needed = places.div_ceil(64);
+    // (mostly there are)
     if groups.len() < needed {
-        groups.resize(needed, Group { bits: 0, before })?;
+        return grow(groups, needed, before);
     }
     Ok(())
+}
+
+/// Adds groups of which no word is kept, until there are so many.
+#[cold]
+#[inline(never)]
+fn grow(groups: &mut Vec<Group>, needed: usize, before: usize) -> Result<(), AllocError>
+    requires { length groups.old.items < needed }
+    ensures { groups.new.items ≡
+        (if is_ok result then padded groups.old.items needed before else groups.old.items) }
+{
+    groups.resize(needed, Group { bits: 0, before })
 }
 
 /// Appends the groups of another list, before which this many words more are kept.
