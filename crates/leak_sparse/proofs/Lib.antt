@@ -12,3 +12,5 @@ pub mod AheadLemmas
 pub mod AppendLemmas
 pub mod RetainBitsLemmas
 pub mod RetainLemmas
+pub mod PushedLemmas
+pub mod WholeLemmas

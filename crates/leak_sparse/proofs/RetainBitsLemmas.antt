@@ -127,7 +127,7 @@ ones_skip bits from (suc n) none =
     ap (λ (k : ℕ). count_ones (bits % 2 ^ k)) at
     ∙ omega (arith, ones_step bits (from + n), none (from + n) (omega arith) (omega arith), ones_skip bits from n (λ k l h. none k l (omega (arith, h))))
 
-ones_up : (bits from n : ℕ) → count_ones (bits % 2 ^ from) ≤ count_ones (bits % 2 ^ (from + n))
+pub ones_up : (bits from n : ℕ) → count_ones (bits % 2 ^ from) ≤ count_ones (bits % 2 ^ (from + n))
 ones_up bits from zero = let at : from ≡ from + zero = omega arith in subst (λ (k : ℕ). count_ones (bits % 2 ^ from) ≤ count_ones (bits % 2 ^ k)) at (omega arith)
 ones_up bits from (suc n) =
     let at : from + n + 1 ≡ from + suc n = omega arith in

@@ -29,6 +29,7 @@
 
 mod group;
 mod laws;
+mod pushing;
 mod retaining;
 mod words;
 

@@ -1,9 +1,11 @@
 //! The list of words.
 ghost use Rattle.std.specs.Prelude.{◌≡◌, ◌≢◌, ◌<◌, ◌≤◌, ◌-◌, ◌%◌, ◌∷◌, [], ◌++◌, length, map, replicate, slice_get, take};
 ghost use Rattle.std.specs.Prelude.{MatchOption, OnOk, OnErr, IsOk};
+ghost use Rattle.leak_sparse.specs.Pushed.{group_of};
 ghost use Rattle.leak_sparse.specs.Words.{AreZerosTo, HasRoom, IsNextKept, NoneKeptFrom, between, kept_from, kept_of};
 
 use crate::group::{Group, add_groups, cover, has, lowest_from, ones_below};
+use crate::pushing::{nonzero_bits, push_set};
 use crate::retaining::{keep_between, move_between};
 use std::alloc::{AllocError, Global};
 use std::marker::Model;
@@ -113,6 +115,30 @@ impl SparseWords {
             return Err(AllocError);
         };
         cover(&mut self.groups, len, self.kept.len())?;
+        self.len = len;
+        Ok(())
+    }
+
+    /// Appends 64 words at once: each whose bit is set, and 0 for each other. The words so far fill whole groups of 64
+    /// places. Its errors are those of [`SparseWords::push`].
+    pub fn push_group(&mut self, bits: u64, words: &[[u8; 8]]) -> Result<(), AllocError>
+        requires whole { length self.old % 64 ≡ 0 }
+        requires words { length words.now ≡ 64 }
+        ensures ok { OnOk result (self.new ≡ self.old ++ group_of bits words.now) }
+        ensures err { OnErr result (self.new ≡ self.old) }
+    {
+        let Some(len) = self.len.checked_add(64) else {
+            return Err(AllocError);
+        };
+        let before = self.kept.len();
+        let bits = nonzero_bits(bits, words);
+        self.groups.reserve(1)?;
+        self.kept.reserve(bits.count_ones() as usize)?;
+        // An error can have left a spare group at the end.
+        let full = self.len / 64;
+        self.groups.truncate(full);
+        push_set(&mut self.kept, bits, words);
+        self.groups.push_reserved(Group { bits, before });
         self.len = len;
         Ok(())
     }
