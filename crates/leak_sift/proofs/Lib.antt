@@ -10,3 +10,7 @@ pub mod PartLemmas
 pub mod TakenLemmas
 pub mod OrderLemmas
 pub mod ThreadLemmas
+pub mod BitsLemmas
+pub mod NearBitLemmas
+pub mod DroppedLemmas
+pub mod GroupLemmas

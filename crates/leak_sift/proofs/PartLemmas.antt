@@ -63,7 +63,7 @@ module _ (f : ℕ → ℕ → ℕ) (bytes : List ℕ) (done n : ℕ) (inside : d
       ∙ ap (λ (m : ℕ). f m (number_at w64 bytes m)) (sym at)
       ∙ sym (get_or-take n (drop done (by_words f bytes)) k d h ∙ get_or-drop done (by_words f bytes) k d ∙ get-by_words f bytes (done + k) d (omega arith))
 
-  words_part : by_words (later f done) part ≡ take n (drop done (by_words f bytes))
+  pub words_part : by_words (later f done) part ≡ take n (drop done (by_words f bytes))
   words_part = same_lists (by_words (later f done) part) (take n (drop done (by_words f bytes))) lengths (λ k d l. each k d (omega (arith, length-by_words (later f done) part, length-part)))
 
 -- ---- words of a run

@@ -1,5 +1,6 @@
 -- The definitions of this crate, by subject.
 pub mod Behind
+pub mod Grouped
 pub mod Kept
 pub mod KeptRows
 pub mod Passed

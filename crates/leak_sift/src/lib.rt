@@ -18,6 +18,7 @@
 
 mod appending;
 mod behind;
+mod group;
 mod laws;
 mod near;
 mod orderly;

@@ -1,9 +1,11 @@
 //! Whether a place is near a live block.
-ghost use Rattle.std.specs.Prelude.{◌≡◌, ◌+◌, ◌-◌, ◌<◌, ◌≤◌, ℕ, Bool, length, slice_index_or, true, false, IsTrue};
+ghost use Rattle.std.specs.Prelude.{◌≡◌, ◌+◌, ◌-◌, ◌*◌, ◌^◌, ◌<◌, ◌≤◌, ◌==◌, ℕ, Bool, length, slice_index_or, true, false, IsTrue};
+ghost use Rattle.std.specs.List.{list_any};
 ghost use Rattle.leak_blocks.specs.Span.{AreDisjoint};
 ghost use Rattle.leak_chunks.specs.Fit.{least_chunk};
 ghost use Rattle.leak_index.specs.Ranks.{none};
-ghost use Rattle.leak_sift.specs.Kept.{is_near, is_near_block};
+ghost use Rattle.leak_sift.specs.Grouped.{AreBits, AreOff};
+ghost use Rattle.leak_sift.specs.Kept.{distances, is_near, is_near_block};
 ghost use Rattle.leak_sift.specs.Passed.{AreBehind, AreCalm, IsPassed};
 
 use leak_blocks::Block;
@@ -73,6 +75,94 @@ pub(crate) fn is_near(blocks: &[Block], links: bool, count: usize, place: u64) -
         }
     }
     false
+}
+
+/// From which block on one can be near the place or a later one, given how many come before it.
+pub(crate) fn first_near(blocks: &[Block], passed: usize, place: u64) -> usize
+    requires disjoint { AreDisjoint blocks.now }
+    requires bound { passed ≤ length blocks.now }
+    ensures bound { result ≤ passed }
+    ensures off { (links : Bool) → AreOff blocks.now links place result }
+{
+    let mut first = passed;
+    while first > 0 {
+        first -= 1;
+        if place.saturating_sub(blocks[first].start) >= FARTHEST {
+            return first;
+        }
+    }
+    0
+}
+
+/// Which of 64 places are near a block, by bits, given from which block on one can be; and how many blocks were tried or come
+/// before that. The places are 8 bytes apart.
+pub(crate) fn near_bits(blocks: &[Block], links: bool, first: usize, place: u64) -> (u64, usize)
+    requires disjoint { AreDisjoint blocks.now }
+    requires bound { first ≤ length blocks.now }
+    requires off { AreOff blocks.now links place first }
+    requires fits { place + 512 < 2 ^ 64 + 8 }
+    ensures bits { AreBits (λ k. is_near blocks.now links (place + 8 * k)) 64 result.0 }
+    ensures bound { result.1 ≤ length blocks.now }
+{
+    let mut bits = 0;
+    let mut next = first;
+    while next < blocks.len() && size_place(&blocks[next]).saturating_sub(place) < 512 {
+        bits |= bits_of_block(&blocks[next], links, place);
+        next += 1;
+    }
+    (bits, next)
+}
+
+/// Which of 64 places are near the block, by bits. They are 8 bytes apart.
+#[inline(always)]
+fn bits_of_block(block: &Block, links: bool, place: u64) -> u64
+    requires { place + 512 < 2 ^ 64 + 8 }
+    ensures { AreBits (λ k. is_near_block links (place + 8 * k) block.now) 64 result }
+{
+    let size = bit_of(size_place(block), place);
+    // (at places past 64 bits there are no words)
+    let Some(end) = block.start.checked_add(block.size) else {
+        return size;
+    };
+    let Some(end) = end.checked_add(padding(block.size)) else {
+        return size;
+    };
+    size | bits_behind(end, links, place)
+}
+
+/// Which of 64 places are at such a distance from the end that words are asked for there, by bits.
+#[inline(always)]
+fn bits_behind(end: u64, links: bool, place: u64) -> u64
+    ensures { AreBits (λ k. list_any (λ d. place + 8 * k == end + d) (distances links)) 64 result }
+{
+    let asked = if links { 0b1_0111 } else { 0b1_0101 };
+    if end < place {
+        let distance = place - end;
+        if distance % 8 == 0 && distance <= 32 {
+            return asked >> (distance / 8);
+        }
+        return 0;
+    }
+    let distance = end - place;
+    if distance % 8 == 0 && distance < 512 {
+        return asked << (distance / 8);
+    }
+    0
+}
+
+/// The bit of a place, if it is one of 64 places that are 8 bytes apart. Otherwise none.
+#[inline(always)]
+fn bit_of(at: u64, place: u64) -> u64
+    ensures { AreBits (λ k. place + 8 * k == at) 64 result }
+{
+    if at < place {
+        return 0;
+    }
+    let distance = at - place;
+    if distance % 8 == 0 && distance < 512 {
+        return 1 << (distance / 8);
+    }
+    0
 }
 
 /// Up to which place, that one excluded, no place from this one on is near a block, given how many have their size word

@@ -3,11 +3,14 @@ ghost use Rattle.std.specs.Prelude.{◌≡◌, ◌*◌, ◌+◌, ◌/◌, ◌^�
 ghost use Rattle.std.specs.Int.{w64};
 ghost use Rattle.leak_blocks.specs.Span.{AreAddressed};
 ghost use Rattle.leak_elf.specs.Fields.{number_at};
+ghost use Rattle.leak_sift.specs.Grouped.{AreBits, is_kept};
 ghost use Rattle.leak_sift.specs.Kept.{is_near, kept_of};
 ghost use Rattle.leak_sift.specs.Passed.{IsRange};
 ghost use Rattle.leak_sift.specs.Sifted.{IsNextKept, run_of};
+ghost use Rattle.leak_sparse.specs.Pushed.{word_of};
 
-use crate::near::{calm_end, count_passed, is_near, is_next_size_place};
+use crate::group::bits_between;
+use crate::near::{calm_end, count_passed, first_near, is_near, is_next_size_place, near_bits};
 use crate::words::{count_outside, count_zeros, word_at};
 use leak_blocks::{Block, Live};
 use std::marker::Model;
@@ -116,9 +119,35 @@ impl<'a> Sieve<'a> {
         None
     }
 
+    /// Goes to a place that may be far from the last.
+    pub(crate) fn seek(&mut self, place: u64)
+        ensures { self.new ≡ self.old }
+    {
+        self.passed = count_passed(self.blocks, place, self.passed);
+    }
+
+    /// Which of 64 words are kept, by bits. The first of them is at the place. Some of them may be 0.
+    #[inline(always)]
+    pub(crate) fn group_bits(&mut self, place: u64, words: &[[u8; 8]]) -> u64
+        requires fits { place + 512 < 2 ^ 64 + 8 }
+        requires words { length words.now ≡ 64 }
+        ensures bits { AreBits (λ k. is_kept self.old.blocks self.old.links (place + 8 * k) (word_of words.now k)) 64 result }
+        ensures same { self.new ≡ self.old }
+    {
+        let between = bits_between(words, self.low, self.high);
+        let first = first_near(self.blocks, self.passed, place);
+        let (near, next) = near_bits(self.blocks, self.links, first, place);
+        self.passed = next;
+        // (then the next words are told at once)
+        if near == 0 {
+            self.is_near(place);
+        }
+        near | between
+    }
+
     /// How many of the first words are 0 or left out, as far as that is known at once. The bytes are the words, 8 each,
     /// and the first of them is at the place.
-    fn count_dropped(&self, place: u64, bytes: &[u8]) -> usize
+    pub(crate) fn count_dropped(&self, place: u64, bytes: &[u8]) -> usize
         ensures within { result ≤ length bytes.now / 8 }
         ensures dropped { (k : ℕ) → k < result → kept_of self.now.blocks self.now.links
             (place + 8 * k) (number_at w64 bytes.now (8 * k)) ≡ 0 }

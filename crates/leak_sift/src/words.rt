@@ -5,7 +5,7 @@ ghost use Rattle.leak_elf.specs.Fields.{number_at};
 ghost use Rattle.leak_sift.specs.Passed.{IsOutside};
 
 /// The word that 8 bytes are.
-fn word_of(bytes: &[u8; 8]) -> u64
+pub(crate) fn word_of(bytes: &[u8; 8]) -> u64
     ensures { result ≡ from_le_bytes w64 bytes.now }
 {
     u64::from_le_bytes(*bytes)

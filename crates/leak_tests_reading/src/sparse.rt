@@ -50,6 +50,33 @@ fn each_word_stands_where_it_was_put(rt: HostRuntime) -> Result<(), Fail> {
     Ok(())
 }
 
+/// 64 words at once, of which four bits are set, one of them of a word that is 0; and a word behind them.
+#[test]
+fn sixty_four_words_at_once(rt: HostRuntime) -> Result<(), Fail> {
+    let mut group = [[0; 8]; 64];
+    group[0] = 7_u64.to_le_bytes();
+    group[5] = 8_u64.to_le_bytes();
+    group[32] = u64::MAX.to_le_bytes();
+    group[63] = 0x0102_0304_0506_0708_u64.to_le_bytes();
+    let mut words = SparseWords::new(rt.alloc());
+    words.push_group(1 | 1 << 9 | 1 << 32 | 1 << 63, &group)?;
+    same(&rt, words.len(), 64);
+    same(&rt, words.kept(), 3);
+    words.push(4)?;
+    for (place, word) in [
+        (0, 7),
+        (5, 0),
+        (9, 0),
+        (32, u64::MAX),
+        (63, 0x0102_0304_0506_0708),
+        (64, 4),
+    ] {
+        same_in(&rt, &place, words.get(place), Some(word));
+    }
+    same(&rt, words.next_kept(1), Some(32));
+    Ok(())
+}
+
 /// Words that aren't 0, each behind so many that are, as `push_after` appends them and one by one.
 #[test]
 fn words_behind_zeros(rt: HostRuntime) -> Result<(), Fail> {

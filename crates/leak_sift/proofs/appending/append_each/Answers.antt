@@ -5,7 +5,7 @@ use Rattle.leak_sift.specs.Sifted.{AreZero, run_of}
 use Rattle.leak_sift.proofs.PartLemmas.{none_appended}
 use Rattle.leak_sift.proofs.RunLemmas.{all_appended, on_err, one_more, padded_to}
 use Rattle.leak_sift.proofs.WordLemmas.{length-by_words}
-use Rattle.leak_sift.proofs.appending.append_run.Goals as goal
+use Rattle.leak_sift.proofs.appending.append_each.Goals as goal
 
 -- how many words the run has
 count : (rule : Rule) (place : ℕ) (bytes : List ℕ) → length (run_of rule place bytes) ≡ length bytes / 8

@@ -1,7 +1,7 @@
 -- The words so far.
 use Rattle.std.proofs.Common.{◌≡◌, ◌-◌, ◌≤◌, ◌++◌, take}
 use Rattle.leak_sift.specs.Sifted.{run_of}
-use Rattle.leak_sift.proofs.appending.append_run.Given as goal
+use Rattle.leak_sift.proofs.appending.append_each.Given as goal
 
 abbrev pub invariant-loop-number : goal.invariant-loop-number
 invariant-loop-number l = record {

@@ -1,7 +1,6 @@
 -- The next bit that is set is that of a word, which is 0 or not.
-use Rattle.std.proofs.Common.{◌≡◌, ◌∙◌, ◌<◌, ℕ, Bool, not, List, [], ap, arith}
+use Rattle.std.proofs.Common.{◌≡◌, ℕ, not, ap, arith}
 use Rattle.std.specs.Prelude.{◌==◌}
-use Rattle.std.specs.Int.{w64, from_le_bytes}
 use Rattle.leak_sparse.specs.Pushed.{word_of}
 use Rattle.leak_sparse.proofs.PushedLemmas.{nonzero_after, nonzero_all, nonzero_skip, read_word}
 use Rattle.leak_sparse.proofs.pushing.nonzero_bits.Goals as goal

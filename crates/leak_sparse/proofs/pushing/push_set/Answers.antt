@@ -1,5 +1,5 @@
 -- The word of the next bit that is set is pushed.
-use Rattle.std.proofs.Common.{◌≡◌, ◌%◌, ◌^◌, ◌∙◌, ◌++◌, List, [], ◌∷◌, ap, count_ones, arith}
+use Rattle.std.proofs.Common.{◌≡◌, ◌%◌, ◌∙◌, ap, count_ones, arith}
 use Rattle.leak_sparse.specs.Pushed.{word_of}
 use Rattle.leak_sparse.proofs.BitLemmas.{ones_of_none, ones_step}
 use Rattle.leak_sparse.proofs.RetainBitsLemmas.{ones_next}
