@@ -119,6 +119,7 @@ impl OngoingReplay<'_> {
     }
 
     /// Goes over the next line, which has this number, counted from 1.
+    #[inline(always)]
     pub(crate) fn step(&mut self, line: &Line, number: usize) -> Result<(), AllocError>
         requires fits { IsPastEnd line.now → ⊥ }
         requires so_far { HasComeTo number self.old }
@@ -136,6 +137,7 @@ impl OngoingReplay<'_> {
     }
 
     /// Goes over an allocation.
+    #[inline(always)]
     fn allocate(&mut self, line: &Line, number: usize) -> Result<(), AllocError>
         requires fits { IsPastEnd line.now → ⊥ }
         requires so_far { HasComeTo number self.old }

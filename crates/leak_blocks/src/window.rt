@@ -19,6 +19,7 @@ pub struct LogPlace {
 }
 
 /// The line with its caller as a range of the log, in which so many bytes come before the window.
+#[inline(always)]
 pub(crate) fn moved(line: Line, bytes: usize) -> Line
     requires room { bytes + line.caller.1 < 2 ^ 64 }
     requires order { line.caller.0 ≤ line.caller.1 }
@@ -47,6 +48,7 @@ fn later_fault(fault: LogError, lines: usize) -> LogError
 }
 
 /// Reads the next line of a window that begins at this place, or gives its first fault.
+#[inline(always)]
 fn next_moved(reader: &mut Reader<'_>, from: LogPlace) -> Result<Option<Line>, LogError>
     requires fits { from.bytes + length reader.old.bytes < 2 ^ 64 }
     requires few { from.lines ≤ from.bytes }

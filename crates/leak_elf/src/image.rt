@@ -84,6 +84,7 @@ impl<'a, R: Rest> Words for Image<'a, R> {
         find_run(self.held, &self.rest, segments, self.largest, from)
     }
 
+    #[inline(always)]
     #[tactic(auto, unfolding(crate::specs::Words::word_of))]
     fn kept(&self, from: u64, count: u64) -> Option<&[u64]> {
         let segments = self.segments.as_slice();

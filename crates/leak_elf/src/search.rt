@@ -232,6 +232,7 @@ pub(crate) fn find_run<'a, R: Rest>(
 
 /// Of the words at `count` addresses from this one on, each 8 after the one before it, those that aren't 0, if one
 /// segment has them all behind the bytes that are held, and the rest tells them at once.
+#[inline(always)]
 pub(crate) fn find_kept<'a, R: Rest>(
     held: &[u8],
     rest: &'a R,

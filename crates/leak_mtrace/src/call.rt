@@ -40,6 +40,7 @@ fn body(kind: Kind, text: &[u8]) -> Option<(u64, u64)>
 }
 
 /// Reads a call: a sign, a space, and what the sign asks for.
+#[inline(always)]
 pub fn read_call(text: &[u8]) -> Option<Call>
     ensures { Decides (λ call. IsCall call.kind text.now call.addr call.size) result }
 {

@@ -8,6 +8,7 @@ use crate::call_place::place_end;
 use crate::line::{Kind, Line};
 
 /// Reads a call after its place, in the line's text after `@ `.
+#[inline(always)]
 fn placed(text: &[u8]) -> Option<Line>
     requires { length text.now + 2 < 2 ^ 64 }
     ensures { Decides (IsAfterPlace text.now) result }
@@ -40,6 +41,7 @@ fn plain(text: &[u8]) -> Option<Line>
 }
 
 /// Reads one line, without its line feed. A caller is a range of the line's bytes.
+#[inline(always)]
 pub fn parse_line(line: &[u8]) -> Option<Line>
     ensures { Decides (IsLine line.now) result }
 {

@@ -36,6 +36,7 @@ fn place_at(line: Line, at: usize) -> Line
 }
 
 /// Reads the log's line of this number, which begins at this place.
+#[inline(always)]
 fn read_line(text: &[u8], at: usize, number: usize) -> Result<Line, LogError>
     requires { at + length text.now < 2 ^ 64 }
     ensures ok { IfOk result (IsGoodLine (at, text.now)) }
@@ -82,6 +83,7 @@ impl<'a> Reader<'a> {
     }
 
     /// Reads the next line, or gives the log's first fault. What follows the last line feed is torn, and is not a line.
+    #[inline(always)]
     pub fn next_line(&mut self) -> Result<Option<Line>, LogError>
         ensures bytes { self.new.bytes ≡ self.old.bytes }
         ensures room { self.new.count ≤ length self.old.bytes }

@@ -13,6 +13,7 @@ use leak_scan::{Targets, kept_between, lead_somewhere};
 use std::alloc::{AllocError, Global};
 
 /// Whether a range leads to a block, malloc's links to free chunks included.
+#[inline(always)]
 pub(crate) fn leads_with_links<W: Words, L: Lookup>(
     words: &W,
     lookup: &L,

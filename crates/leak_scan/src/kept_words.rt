@@ -8,6 +8,7 @@ use leak_elf::Words;
 use leak_index::{Hits, Lookup};
 
 /// The words of a block without those that are 0, if these lead nowhere and the memory has the others as one slice.
+#[inline(always)]
 pub fn kept_in_block<'a, W: Words, L: Lookup>(
     words: &'a W,
     lookup: &L,
@@ -21,6 +22,7 @@ pub fn kept_in_block<'a, W: Words, L: Lookup>(
 }
 
 /// The same of the words whose 8 bytes all lie from `from` on and before `to`.
+#[inline(always)]
 pub fn kept_between<'a, W: Words, L: Lookup>(
     words: &'a W,
     lookup: &L,
@@ -35,6 +37,7 @@ pub fn kept_between<'a, W: Words, L: Lookup>(
 }
 
 /// The same of the words whose 8 bytes are among the `size` ones from `from` on.
+#[inline(always)]
 fn kept_from<'a, W: Words, L: Lookup>(
     words: &'a W,
     lookup: &L,

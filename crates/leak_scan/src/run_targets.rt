@@ -94,6 +94,7 @@ pub fn list_words<L: Lookup>(
 }
 
 /// Appends the blocks that a word leads to.
+#[inline(always)]
 fn list_hits(hits: Hits, room: usize, targets: &mut Vec<u32>) -> Result<bool, AllocError>
     requires small { AllByRecursion (λ block. block < 2 ^ 32) (hits_in hits) }
     requires within { length targets.old.items ≤ room }
@@ -117,6 +118,7 @@ fn list_hits(hits: Hits, room: usize, targets: &mut Vec<u32>) -> Result<bool, Al
 }
 
 /// Appends a block.
+#[inline(always)]
 fn list_target(block: usize, room: usize, targets: &mut Vec<u32>) -> Result<bool, AllocError>
     requires small { block < 2 ^ 32 }
     requires within { length targets.old.items ≤ room }

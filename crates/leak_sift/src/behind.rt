@@ -92,6 +92,7 @@ impl<'a> Rest for Behind<'a> {
         8 * words.skip_zeros(place)
     }
 
+    #[inline(always)]
     #[tactic(auto, unfolding(leak_elf::specs::Head::aligned_number_at))]
     fn kept(&self, at: usize, count: usize) -> Option<&[u64]> {
         let words = self.words?;
