@@ -4,9 +4,10 @@
 //! kept as 0. 64 places make a group, and 16 bytes say which of its words are kept and how many are kept before it. So
 //! a word that is 0 takes two bits, and any other 8 bytes more. Reading a word takes constant time, and the search for
 //! the next word that isn't 0 skips 64 zeros at a time; [`SparseWords::skip_zeros`] skips those of one group.
-//! [`SparseWords::kept_between`] gives those of a range that aren't 0, in constant time. [`SparseWords::append`] joins
-//! lists that were built separately, and copies whole groups. [`SparseWords::retain_between`] puts 0 in place of the
-//! words below or above two bounds, and needs no further memory. [`worked_words`] has worked rows of the definitions.
+//! [`SparseWords::kept_between`] gives those of a range that aren't 0, in constant time. [`SparseWords::push_group`]
+//! appends 64 words at once, and [`SparseWords::append`] joins lists that were built separately: it copies whole groups.
+//! [`SparseWords::retain_between`] puts 0 in place of the words below or above two bounds, and needs no further memory.
+//! [`worked_words`] has worked rows of the definitions.
 //!
 //! A million zeros, and 5:
 //!
