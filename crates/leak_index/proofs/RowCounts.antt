@@ -109,19 +109,19 @@ bit_fits bits g low h =
     let room : 2 ^ suc g ≤ 2 ^ 64 = pow-le-pow_right {n = 2} (omega arith) least in
     omega arith
 
--- by the granule of the block
-granule : (bs : List Block) (n : ℕ) → AreAligned bs → n < length bs → start_of bs n ≡ 1024 * row_of bs n + 16 * (start_of bs n / 16 % 64)
-granule bs n aligned h = omega (arith, aligned.each n h)
+-- by the granule of the block, which starts at `start`
+granule : (bs : List Block) (n start : ℕ) → start ≡ start_of bs n → start % 16 ≡ 0 → start_of bs n ≡ 1024 * row_of bs n + 16 * (start / 16 % 64)
+granule bs n start here aligned = omega (arith, here, aligned)
 
-pub bit_room : (bs : List Block) (n : ℕ) (row : Row) → AreDisjoint bs → AreAligned bs → n < length bs → row.bits < 2 ^ 64 → IsRow bs n (row_of bs n) row → row.bits + 2 ^ (start_of bs n / 16 % 64) < 2 ^ 64
-bit_room bs n row apart aligned h fits old =
-    bit_fits row.bits (start_of bs n / 16 % 64) (is_free bs n (row_of bs n) (start_of bs n / 16 % 64) row apart h (granule bs n aligned h) (omega arith) fits old).0 (omega arith)
+pub bit_room : (bs : List Block) (n start : ℕ) (row : Row) → AreDisjoint bs → start ≡ start_of bs n → start % 16 ≡ 0 → n < length bs → row.bits < 2 ^ 64 → IsRow bs n (row_of bs n) row → row.bits + 2 ^ (start / 16 % 64) < 2 ^ 64
+bit_room bs n start row apart here aligned h fits old =
+    bit_fits row.bits (start / 16 % 64) (is_free bs n (row_of bs n) (start / 16 % 64) row apart h (granule bs n start here aligned) (omega arith) fits old).0 (omega arith)
 
-pub with_bit : (bs : List Block) (n bit : ℕ) (row : Row) (stands : Bool) → AreDisjoint bs → AreAligned bs → n < length bs → row.bits < 2 ^ 64 → bit ≡ 2 ^ (start_of bs n / 16 % 64) → (stands ≡ true → (row.apart ≡ true) × IsApart bs n) → IsRow bs n (row_of bs n) row →
+pub with_bit : (bs : List Block) (n start bit : ℕ) (row : Row) (stands : Bool) → AreDisjoint bs → start ≡ start_of bs n → start % 16 ≡ 0 → n < length bs → row.bits < 2 ^ 64 → bit ≡ 2 ^ (start / 16 % 64) → (stands ≡ true → (row.apart ≡ true) × IsApart bs n) → IsRow bs n (row_of bs n) row →
     IsRow bs (n + 1) (row_of bs n) (record { bits = row.bits + bit; first = row.first; apart = stands })
-with_bit bs n bit row stands apart aligned h fits bit_is told old =
+with_bit bs n start bit row stands apart here aligned h fits bit_is told old =
     subst (λ (b : ℕ). IsRow bs (n + 1) (row_of bs n) (record { bits = row.bits + b; first = row.first; apart = stands })) (sym bit_is)
-    (row_more bs n (row_of bs n) (start_of bs n / 16 % 64) row stands apart h (granule bs n aligned h) (omega arith) fits told old)
+    (row_more bs n (row_of bs n) (start / 16 % 64) row stands apart h (granule bs n start here aligned) (omega arith) fits told old)
 
 -- ---- the count for an address
 

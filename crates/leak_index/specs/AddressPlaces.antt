@@ -15,3 +15,7 @@ pub record IsOnlyStart (blocks : List Block) (address number : ℕ) : Type 0 whe
 abbrev pub IsAddressPlace : List Block → ℕ → AddressPlace → Type 0
 IsAddressPlace blocks address (Start number) = IsOnlyStart blocks address number
 IsAddressPlace blocks address (After count) = IsCountUpTo blocks address count
+
+-- a word that is the start of a block, and of no earlier block, has hits
+abbrev pub FindsStarts : List Block → (ℕ → List ℕ) → Type 0
+FindsStarts blocks hits = (word number : ℕ) → IsOnlyStart blocks word number → 0 < length (hits word)

@@ -41,6 +41,10 @@ pub record IsRow (blocks : List Block) (n number : ℕ) (row : Row) : Type 0 whe
   pub counts : (g : ℕ) → g ≤ 64 → IsCountBelow blocks n (1024 * number + 16 * g) (row.first + count_ones (row.bits % 2 ^ g))
   pub apart : row.apart ≡ true → (k : ℕ) → k < n → row_of blocks k ≡ number → IsApart blocks k
 
+-- rows that follow one another, of all blocks, from the one with the number on
+abbrev pub AreRowsFrom : List Block → ℕ → List Row → Type 0
+AreRowsFrom blocks number rows = (k : ℕ) (d : Row) → k < length rows → IsRow blocks (length blocks) (number + k) (slice_index_or rows k d)
+
 -- where the run ends in the list of `total` rows
 abbrev pub end_of : List ℕ → ℕ → ℕ → ℕ
 end_of places total run = slice_index_or places (run + 1) total

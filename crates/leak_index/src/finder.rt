@@ -6,7 +6,7 @@ ghost use Rattle.leak_index.specs.AddressPlaces.{IsAddressPlace};
 
 use crate::address_place::AddressPlace;
 use crate::directory::Directory;
-use crate::ranks::{Ranks, are_aligned};
+use crate::ranks::Ranks;
 use leak_blocks::Block;
 use std::alloc::{AllocError, Global};
 
@@ -24,9 +24,10 @@ impl Finder {
         requires { AreDisjoint blocks.now }
         ensures { IfOk result (λ finder. Finds blocks.now finder) }
     {
-        if blocks.len() <= u32::MAX as usize && are_aligned(blocks) {
-            let ranks = Ranks::new(alloc, blocks)?;
-            return Ok(Finder::Rows(ranks));
+        if blocks.len() <= u32::MAX as usize {
+            if let Some(ranks) = Ranks::new(alloc, blocks)? {
+                return Ok(Finder::Rows(ranks));
+            }
         }
         let directory = Directory::new(alloc, blocks)?;
         Ok(Finder::Pages(directory))

@@ -53,4 +53,11 @@ impl<'a> Lookup for Paged<'a> {
         let place = self.finder.place(self.candidates.blocks(), word);
         self.candidates.hits_at(word, place)
     }
+
+    fn count_leading(&self, words: &[u64]) -> usize {
+        match &self.finder {
+            Finder::Rows(ranks) => ranks.count_starts(self.candidates.blocks(), words),
+            Finder::Pages(_) => 0,
+        }
+    }
 }

@@ -1,8 +1,8 @@
 //! Rows of addresses, with a bit for each place in which a block starts.
-ghost use Rattle.std.specs.Prelude.{◌≡◌, ◌+◌, ◌/◌, ◌%◌, ◌^◌, ◌<◌, ◌≤◌, length, count_ones, IfOk, IsTrue};
+ghost use Rattle.std.specs.Prelude.{◌≡◌, ◌+◌, ◌/◌, ◌%◌, ◌^◌, ◌<◌, ◌≤◌, ℕ, List, length, flat_map, count_ones, IfOk, IfSome, IsTrue};
 ghost use Rattle.leak_blocks.specs.Span.{AreDisjoint};
-ghost use Rattle.leak_index.specs.AddressPlaces.{IsAddressPlace};
-ghost use Rattle.leak_index.specs.Ranks.{AreAligned, IsApart, IsMadeTo, IsRanked, IsRow, end_of, row_of};
+ghost use Rattle.leak_index.specs.AddressPlaces.{FindsStarts, IsAddressPlace, IsOnlyStart};
+ghost use Rattle.leak_index.specs.Ranks.{AreAligned, AreRowsFrom, IsApart, IsMadeTo, IsRanked, IsRow, end_of, row_of, start_of};
 
 use crate::address_place::AddressPlace;
 use crate::directory::count_pages;
@@ -28,16 +28,17 @@ pub(crate) struct Row {
 }
 
 impl Row {
-    /// The row with one more block, which has the number and starts in the row.
-    fn with(self, blocks: &[Block], number: usize) -> Row
+    /// The row with one more block, which has the number and starts in the row, at `start`.
+    fn with(self, blocks: &[Block], number: usize, start: u64) -> Row
         requires disjoint { AreDisjoint blocks.now }
-        requires aligned { AreAligned blocks.now }
         requires inside { number < length blocks.now }
+        requires here { start ≡ start_of blocks.now number }
+        requires aligned { start % 16 ≡ 0 }
         requires row { IsRow blocks.now number (row_of blocks.now number) self }
         ensures { IsRow blocks.now (number + 1) (row_of blocks.now number) result }
     {
-        let granule = blocks[number].start / GRANULE % 64;
-        let apart = is_apart(blocks, number);
+        let granule = start / GRANULE % 64;
+        let apart = is_apart(blocks, number, start);
         Row {
             bits: self.bits + (1 << granule),
             first: self.first,
@@ -76,12 +77,13 @@ pub(crate) struct Ranks {
 }
 
 impl Ranks {
-    /// The rows for blocks by ascending start.
-    pub(crate) fn new(alloc: Global, blocks: &[Block]) -> Result<Ranks, AllocError>
+    /// The rows for blocks by ascending start, and none if a block doesn't start at a multiple of 16. That is tested here
+    /// since going over the blocks once more takes long.
+    pub(crate) fn new(alloc: Global, blocks: &[Block]) -> Result<Option<Ranks>, AllocError>
         requires disjoint { AreDisjoint blocks.now }
-        requires aligned { AreAligned blocks.now }
         requires few { length blocks.now < 2 ^ 32 }
-        ensures { IfOk result (λ ranks. IsRanked blocks.now ranks) }
+        ensures { IfOk result (λ found.
+            IfSome found (λ ranks. AreAligned blocks.now × IsRanked blocks.now ranks)) }
     {
         let mut ranks = Ranks {
             numbers: Vec::new(alloc),
@@ -90,16 +92,21 @@ impl Ranks {
             next: 0,
         };
         for number in 0..blocks.len() {
-            ranks.add(blocks, number)?;
+            let start = blocks[number].start;
+            if start % GRANULE != 0 {
+                return Ok(None);
+            }
+            ranks.add(blocks, number, start)?;
         }
-        Ok(ranks)
+        Ok(Some(ranks))
     }
 
-    /// Adds the block with the number, the first that isn't in the rows yet.
-    fn add(&mut self, blocks: &[Block], number: usize) -> Result<(), AllocError>
+    /// Adds the block with the number, the first that isn't in the rows yet. It starts at `start`.
+    fn add(&mut self, blocks: &[Block], number: usize, start: u64) -> Result<(), AllocError>
         requires disjoint { AreDisjoint blocks.now }
-        requires aligned { AreAligned blocks.now }
         requires inside { number < length blocks.now }
+        requires here { start ≡ start_of blocks.now number }
+        requires aligned { start % 16 ≡ 0 }
         requires few { length blocks.now < 2 ^ 32 }
         requires made { IsMadeTo blocks.now number self.old }
         requires rest { self.old.next ≤ row_of blocks.now number + 1 }
@@ -107,22 +114,24 @@ impl Ranks {
             IsMadeTo blocks.now (number + 1) self.new
             × (self.new.next ≡ row_of blocks.now number + 1)) }
     {
-        self.reach(blocks, number)?;
+        self.reach(blocks, number, start)?;
         let last = self.rows.len() - 1;
-        self.rows[last] = self.rows[last].with(blocks, number);
+        let row = &mut self.rows[last];
+        *row = row.with(blocks, number, start);
         Ok(())
     }
 
     /// Makes the row in which the block with the number starts, unless it is there. It is in the last run if that isn't far.
-    fn reach(&mut self, blocks: &[Block], number: usize) -> Result<(), AllocError>
+    fn reach(&mut self, blocks: &[Block], number: usize, start: u64) -> Result<(), AllocError>
         requires inside { number < length blocks.now }
+        requires here { start ≡ start_of blocks.now number }
         requires few { length blocks.now < 2 ^ 32 }
         requires made { IsMadeTo blocks.now number self.old }
         requires rest { self.old.next ≤ row_of blocks.now number + 1 }
         ensures { IfOk result (λ unit.
             IsMadeTo blocks.now number self.new × (self.new.next ≡ row_of blocks.now number + 1)) }
     {
-        let row = blocks[number].start / ROW;
+        let row = start / ROW;
         if row < self.next {
             return Ok(());
         }
@@ -197,6 +206,25 @@ impl Ranks {
         AddressPlace::After(row.first as usize + ones_below(row.bits, 64))
     }
 
+    /// How many of the words are starts of blocks, as far as the run tells that has the row of the first of them.
+    pub(crate) fn count_starts(&self, blocks: &[Block], words: &[u64]) -> usize
+        requires ranked { IsRanked blocks.now self.now }
+        requires aligned { AreAligned blocks.now }
+        ensures { (hits : ℕ → List ℕ) → FindsStarts blocks.now hits
+            → result ≤ length (flat_map hits words.now) }
+    {
+        let Some(word) = words.first() else {
+            return 0;
+        };
+        let runs = count_pages(self.numbers.as_slice(), *word / ROW);
+        if runs == 0 {
+            return 0;
+        }
+        let run = runs - 1;
+        let rows = &self.rows[self.places[run]..self.end(run)];
+        count_in(rows, self.numbers[run], blocks, words)
+    }
+
     /// Where the run ends in the list of rows.
     #[inline(always)]
     fn end(&self, run: usize) -> usize
@@ -211,17 +239,53 @@ impl Ranks {
     }
 }
 
-/// Whether each block before the one with the number ends before that one begins.
-fn is_apart(blocks: &[Block], number: usize) -> bool
+/// Whether each block before the one with the number ends before that one begins, at `start`.
+fn is_apart(blocks: &[Block], number: usize, start: u64) -> bool
     requires disjoint { AreDisjoint blocks.now }
     requires inside { number < length blocks.now }
+    requires here { start ≡ start_of blocks.now number }
     ensures { IsTrue result → IsApart blocks.now number }
 {
     if number == 0 {
         return true;
     }
     let before = blocks[number - 1];
-    blocks[number].start - before.start > before.size
+    start - before.start > before.size
+}
+
+/// How many of the words are starts of blocks, as far as these rows tell, which follow one another from the row with the number
+/// on. It stands by itself so that little is done between one word and the next: a processor reads ahead so far only.
+#[inline(never)]
+fn count_in(rows: &[Row], number: u64, blocks: &[Block], words: &[u64]) -> usize
+    requires rows { AreRowsFrom blocks.now number rows.now }
+    requires aligned { AreAligned blocks.now }
+    ensures { (hits : ℕ → List ℕ) → FindsStarts blocks.now hits
+        → result ≤ length (flat_map hits words.now) }
+{
+    let mut count = 0;
+    for word in words {
+        count += usize::from(is_start(rows, number, blocks, *word));
+    }
+    count
+}
+
+/// Whether the word is the start of a block, as far as these rows tell.
+#[inline(always)]
+fn is_start(rows: &[Row], number: u64, blocks: &[Block], word: u64) -> bool
+    requires rows { AreRowsFrom blocks.now number rows.now }
+    requires aligned { AreAligned blocks.now }
+    ensures { IsTrue result → (block : ℕ) × IsOnlyStart blocks.now word block }
+{
+    let Some(distance) = (word / ROW).checked_sub(number) else {
+        return false;
+    };
+    if distance >= rows.len() as u64 {
+        return false;
+    }
+    match rows[distance as usize].place(blocks, word) {
+        AddressPlace::Start(_) => true,
+        AddressPlace::After(_) => false,
+    }
 }
 
 /// How many of the `many` lowest bits are set.
@@ -232,11 +296,4 @@ fn ones_below(bits: u64, many: u64) -> usize
     ensures { result ≡ count_ones (bits % 2 ^ many) }
 {
     (bits << (64 - many)).count_ones() as usize
-}
-
-/// Whether each block starts at a multiple of 16.
-pub(crate) fn are_aligned(blocks: &[Block]) -> bool
-    ensures { IsTrue result → AreAligned blocks.now }
-{
-    blocks.iter().all(|block| block.start % GRANULE == 0)
 }

@@ -12,15 +12,29 @@ use Rattle.leak_pool.specs.SearchModel.{SearchModel}
 use Rattle.leak_pool.specs.declared.marking_state.MarkingState.{MarkingState}
 use Rattle.leak_pool.specs.Rounds.{AreCounted}
 
+-- a sum of a remainder and a number
+mod_more : (a b m : ℕ) → (a % m + b) % m ≡ (a + b) % m
+mod_more a b m = mod-add-mod a m b
+
+-- so many steps more, and those of so many items are let through too
+pub steps_more : (start first next step count : ℕ) → first ≤ next → step ≡ (start + (next - first)) % 2 ^ 64 → (step + count) % 2 ^ 64 ≡ (start + (next + count - first)) % 2 ^ 64
+steps_more start first next step count from is = ap (λ (x : ℕ). (x + count) % 2 ^ 64) is ∙ mod_more (start + (next - first)) count (2 ^ 64) ∙ ap (λ (x : ℕ). x % 2 ^ 64) same
+  where
+    same : start + (next - first) + count ≡ start + (next + count - first)
+    same = omega arith
+
+pub several_passed : (passed : ℕ → ℕ → Type 0) (steps : List ℕ) (k first next step count : ℕ) → first ≤ next → step ≡ (get_or steps k 0 + (next - first)) % 2 ^ 64
+    → ((i : ℕ) → i < count → passed k ((step + i) % 2 ^ 64)) → ((j : ℕ) → j < next - first → IsNextPassed passed steps k j) → (j : ℕ) → j < next + count - first → IsNextPassed passed steps k j
+several_passed passed steps k first next step count from is each before j h =
+    dite (dec_lt j (next - first)) (λ lt. before j lt)
+    (λ ge. let i : ℕ = j - (next - first) in let below : i < count = omega arith in let e : next + i - first ≡ j = omega arith in
+    subst (λ (s : ℕ). passed k s) (steps_more (get_or steps k 0) first next step i from is ∙ ap (λ (n : ℕ). (get_or steps k 0 + n) % 2 ^ 64) e) (each i below))
+
 -- the step of the next item is let through too
 pub next_passed : (passed : ℕ → ℕ → Type 0) (steps : List ℕ) (k first next step : ℕ) → first ≤ next → step ≡ (get_or steps k 0 + (next - first)) % 2 ^ 64 → passed k step
     → ((j : ℕ) → j < next - first → IsNextPassed passed steps k j) → (j : ℕ) → j < next + 1 - first → IsNextPassed passed steps k j
 next_passed passed steps k first next step from is p before j h =
     dite (dec_lt j (next - first)) (λ lt. before j lt) (λ ge. let e : next - first ≡ j = omega arith in subst (λ (i : ℕ). IsNextPassed passed steps k i) e (subst (λ (s : ℕ). passed k s) is p))
-
--- a sum of a remainder and a number
-mod_more : (a b m : ℕ) → (a % m + b) % m ≡ (a + b) % m
-mod_more a b m = mod-add-mod a m b
 
 -- the number of the first step, and of the one after it
 pub first_step : (step from : ℕ) → step < 2 ^ 64 → step ≡ (step + (from - from)) % 2 ^ 64

@@ -1,7 +1,8 @@
 -- A worker on the way through its share.
-use Rattle.std.proofs.Common.{◌≡◌, ◌⊎◌, ℕ, ◌+◌, ◌-◌, ◌<◌, ◌≤◌, zero, suc, List, [], ◌∷◌, ◌++◌, length, flat_map, get_or, take, drop, refl, sym, ap, ◌∙◌, subst, inl, inr, ⊎_elim, arith, append_assoc}
-use Rattle.std.specs.List.{concat, sum_by}
-use Rattle.std.proofs.lemmas.List.{append-nil, length-append, length-drop, take-append-drop}
+use Rattle.std.proofs.Common.{◌≡◌, ◌⊎◌, ℕ, ◌+◌, ◌-◌, ◌<◌, ◌≤◌, zero, suc, List, [], ◌∷◌, ◌++◌, length, map, flat_map, get_or, take, drop, refl, sym, ap, ◌∙◌, subst, inl, inr, ⊎_elim, arith, append_assoc}
+use Rattle.std.specs.List.{All, concat, sum_by}
+use Rattle.std.proofs.lemmas.List.{append-nil, length-append, length-drop, take-append-drop, get_or-take, get_or-drop, get_or-map}
+use Rattle.std.proofs.lemmas.List.Elements.{All-get_or}
 use Rattle.std.proofs.lemmas.List.Sums.{sum_by-cons}
 use mathlib.Core.Logic.{dite}
 use native.Mathlib.Decide.{dec_lt}
@@ -9,16 +10,17 @@ use Rattle.leak_marks.specs.Lists.{Has, IsDistinct}
 use Rattle.leak_marks.specs.Seats.{Held, IsSound}
 use Rattle.leak_marks.specs.Rounds.{AreLed, IsKept, IsKeptInRounds}
 use Rattle.leak_marks.proofs.ListLemmas.{here, there, has_front, has_back, of_append, distinct_back}
+use Rattle.leak_marks.proofs.ElementLemmas.{place_of}
 use Rattle.leak_marks.proofs.StackLemmas.{kept_more, kept_nothing, led_from}
-use Rattle.leak_pool.specs.Items.{InRange, share, targets_of_item}
+use Rattle.leak_pool.specs.Items.{InRange, IsItem, share, targets_at, targets_of_block, targets_of_item}
 use Rattle.leak_pool.specs.declared.hand.Hand.{Hand}
 use Rattle.leak_pool.specs.declared.target_source.Item.{Item}
 use Rattle.leak_pool.specs.declared.target_source.Item.TheVariants.{Root, Block}
 use Rattle.leak_pool.specs.Promises.{IsPutAway, IsWorking, IsByStack, IsDirect, IsHalf}
 use Rattle.leak_pool.specs.SearchModel.{Work, blocks_of, items_of}
-use Rattle.leak_pool.specs.Tops.{IsTopScanned}
+use Rattle.leak_pool.specs.Tops.{IsTopScanned, targets_of_blocks}
 use Rattle.leak_pool.proofs.ScanLemmas.{none_has}
-use Rattle.leak_pool.proofs.PartLemmas.{of_parts, has_part}
+use Rattle.leak_pool.proofs.PartLemmas.{of_parts, has_part, part_has}
 use Rattle.leak_pool.proofs.CountLemmas.{few_distinct}
 
 -- before the first item
@@ -77,19 +79,65 @@ module _ (blocks : ℕ → List ℕ) (item next whole : ℕ → Type 0) (before 
       all_of_more : (b : ℕ) → Has (take n more) b ⊎ Has (drop n more) b → Has more b
       all_of_more b h = subst (λ (x : List ℕ). Has x b) (take-append-drop n more) (⊎_elim (λ t. has_front (take n more) (drop n more) b t) (λ d. has_back (take n more) (drop n more) b d) h)
 
--- the next item of the share
-pub working_item : (blocks targets : ℕ → List ℕ) (first i : ℕ) (before mid after : Held) (n : ℕ) (list stack left more longer stack' left' : List ℕ) → first ≤ i
-    → IsWorking blocks (InRange targets first i) before mid list stack left
-    → after.table ≡ mid.table → after.share ≡ mid.share → IsSound after → after.claims ≡ mid.claims ++ more → IsKeptInRounds (Has (targets i)) mid.seen after.seen more
-    → longer ≡ list ++ more → stack' ≡ stack ++ take n more → left' ≡ left ++ drop n more
-    → IsWorking blocks (InRange targets first (i + 1)) before after longer stack' left'
-working_item blocks targets first i before mid after n list stack left more longer stack' left' low w =
-    working_more blocks (InRange targets first i) (Has (targets i)) (InRange targets first (i + 1)) before mid after n list stack [] stack left more longer stack' left'
-    (λ b r. let below : r.0 < i = r.2 in (r.0, r.1, omega arith, r.3))
-    (λ b r. let k : ℕ = r.0 in let from : first ≤ k = r.1 in let below : k < i + 1 = r.2 in
-    dite (dec_lt k i) (λ lt. inl (k, from, lt, r.3)) (λ ge. let is : k ≡ i = omega arith in inr (subst (λ (m : ℕ). Has (targets m) b) is r.3)))
-    (λ b h. inl (i, low, omega arith, h))
-    (λ s h. none_has s h) (sym (append-nil stack)) w
+-- the next items of the share, from i up to j, which lead to what the list has
+module _ (blocks targets : ℕ → List ℕ) (first i j : ℕ) (led : List ℕ) (low : first ≤ i) (up : i ≤ j) (of_items : (b : ℕ) → Has led b → InRange targets i j b) (all : (b : ℕ) → InRange targets i j b → Has led b) where
+  pub working_items : (before mid after : Held) (n : ℕ) (list stack left more longer stack' left' : List ℕ)
+      → IsWorking blocks (InRange targets first i) before mid list stack left
+      → after.table ≡ mid.table → after.share ≡ mid.share → IsSound after → after.claims ≡ mid.claims ++ more → IsKeptInRounds (Has led) mid.seen after.seen more
+      → longer ≡ list ++ more → stack' ≡ stack ++ take n more → left' ≡ left ++ drop n more
+      → IsWorking blocks (InRange targets first j) before after longer stack' left'
+  working_items before mid after n list stack left more longer stack' left' w =
+      working_more blocks (InRange targets first i) (Has led) (InRange targets first j) before mid after n list stack [] stack left more longer stack' left'
+      (λ b r. let below : r.0 < i = r.2 in (r.0, r.1, omega arith, r.3))
+      (λ b r. let k : ℕ = r.0 in let from : first ≤ k = r.1 in let below : k < j = r.2 in
+      dite (dec_lt k i) (λ lt. inl (k, from, lt, r.3)) (λ ge. inr (all b (k, omega arith, below, r.3))))
+      (λ b h. let r = of_items b h in let from : i ≤ r.0 = r.1 in inl (r.0, omega arith, r.2, r.3))
+      (λ s h. none_has s h) (sym (append-nil stack)) w
+
+  pub direct_items : (limit : ℕ) (mid after : Held) (hand later : Hand) → limit ≡ 0 → IsDirect (InRange targets first i) hand.list.items hand.left.items
+      → IsPutAway led limit mid after hand later → IsDirect (InRange targets first j) later.list.items later.left.items
+  direct_items limit mid after hand later empty d p = record {
+    all_left = p.left_is ∙ ap (λ (l : List ℕ). l ++ drop (limit - length hand.stack.items) p.more) d.all_left ∙ ap (λ (n : ℕ). hand.list.items ++ drop n p.more) none ∙ sym p.list_is;
+    of_items = λ b h. ⊎_elim (λ old. let r = d.of_items b old in let below : r.0 < i = r.2 in (r.0, r.1, omega arith, r.3))
+        (λ new. let r = of_items b (p.kept.gains b new) in let from : i ≤ r.0 = r.1 in (r.0, omega arith, r.2, r.3))
+        (of_append hand.list.items p.more b (subst (λ (l : List ℕ). Has l b) p.list_is h));
+  }
+    where
+      none : limit - length hand.stack.items ≡ 0
+      none = let z = empty in omega arith
+
+-- one item leads to what it leads to
+of_one : (targets : ℕ → List ℕ) (i b : ℕ) → Has (targets i) b → InRange targets i (i + 1) b
+of_one targets i b h = (i, omega arith, omega arith, h)
+
+all_of_one : (targets : ℕ → List ℕ) (i b : ℕ) → InRange targets i (i + 1) b → Has (targets i) b
+all_of_one targets i b r = let from : i ≤ r.0 = r.1 in let below : r.0 < i + 1 = r.2 in let is : r.0 ≡ i = omega arith in subst (λ (k : ℕ). Has (targets k) b) is r.3
+
+-- blocks that are items from the one with the number on
+module _ (roots targets : List (List ℕ)) (items : List Item) (blocks : List ℕ) (from : ℕ) (are : map Block blocks ≡ take (length blocks) (drop from items)) where
+  item_is : (k : ℕ) → k < length blocks → get_or items (from + k) (Root 0) ≡ Block (get_or blocks k 0)
+  item_is k below = sym (get_or-drop from items k (Root 0)) ∙ sym (get_or-take (length blocks) (drop from items) k (Root 0) below) ∙ ap (λ (l : List Item). get_or l k (Root 0)) (sym are)
+      ∙ get_or-map Block blocks k 0 (Root 0) below
+
+  pub several_inside : All (λ i. IsItem roots targets i) items → from + length blocks ≤ length items → (b : ℕ) → Has blocks b → b < length targets
+  several_inside each within b h =
+      let p = place_of blocks b h in let k : ℕ = p.0 in let below : k < length blocks = p.1 in
+      subst (λ (x : ℕ). x < length targets) (p.2 0) (subst (λ (i : Item). IsItem roots targets i) (item_is k below) (All-get_or (λ i. IsItem roots targets i) items (from + k) (Root 0) (omega arith) each))
+
+  pub of_several : (b : ℕ) → Has (targets_of_blocks targets blocks) b → InRange (targets_at roots targets items) from (from + length blocks) b
+  of_several b h =
+      let o = of_parts (targets_of_block targets) blocks b h in let p = place_of blocks o.0 o.1 in let k : ℕ = p.0 in let below : k < length blocks = p.1 in (
+        from + k,
+        omega arith,
+        omega arith,
+        subst (λ (i : Item). Has (targets_of_item roots targets i) b) (sym (item_is k below)) (subst (λ (s : ℕ). Has (targets_of_block targets s) b) (sym (p.2 0)) o.2),
+      )
+
+  pub all_of_several : (b : ℕ) → InRange (targets_at roots targets items) from (from + length blocks) b → Has (targets_of_blocks targets blocks) b
+  all_of_several b r =
+      let low : from ≤ r.0 = r.1 in let high : r.0 < from + length blocks = r.2 in let k : ℕ = r.0 - from in let below : k < length blocks = omega arith in let is : r.0 ≡ from + k = omega arith in
+      part_has (targets_of_block targets) 0 blocks k b below
+      (subst (λ (i : Item). Has (targets_of_item roots targets i) b) (item_is k below) (subst (λ (n : ℕ). Has (targets_at roots targets items n) b) is r.3))
 
 -- the blocks on top of the stack
 pub working_top : (blocks : ℕ → List ℕ) (item : ℕ → Type 0) (gone : List ℕ) (before mid after : Held) (n : ℕ) (list stack top left more longer stack' left' : List ℕ) → top ≡ stack ++ gone
@@ -132,12 +180,19 @@ put_top w limit first next before mid after hand later working table share sound
     working_top (blocks_of w) (InRange (items_of w) first next) p.top before mid after (limit - length p.rest) hand.list.items p.rest hand.stack.items hand.left.items p.more
     later.list.items later.stack.items later.left.items p.stack_was working table share sound p.claims_are p.kept p.list_is p.stack_is p.left_is
 
+module _ (w : Work) (limit first next until : ℕ) (led : List ℕ) (low : first ≤ next) (up : next ≤ until) (of_items : (b : ℕ) → Has led b → InRange (items_of w) next until b)
+    (all : (b : ℕ) → InRange (items_of w) next until b → Has led b) (before mid after : Held) (hand later : Hand) where
+  pub put_items : IsWorking (blocks_of w) (InRange (items_of w) first next) before mid hand.list.items hand.stack.items hand.left.items → after.table ≡ mid.table → after.share ≡ mid.share → IsSound after
+      → IsPutAway led limit mid after hand later → IsWorking (blocks_of w) (InRange (items_of w) first until) before after later.list.items later.stack.items later.left.items
+  put_items working table share sound p =
+      working_items (blocks_of w) (items_of w) first next until led low up of_items all before mid after (limit - length hand.stack.items) hand.list.items hand.stack.items hand.left.items p.more
+      later.list.items later.stack.items later.left.items working table share sound p.claims_are p.kept p.list_is p.stack_is p.left_is
+
 pub put_item : (w : Work) (limit first next : ℕ) (before mid after : Held) (hand later : Hand) → first ≤ next
     → IsWorking (blocks_of w) (InRange (items_of w) first next) before mid hand.list.items hand.stack.items hand.left.items → after.table ≡ mid.table → after.share ≡ mid.share → IsSound after
     → IsPutAway (items_of w next) limit mid after hand later → IsWorking (blocks_of w) (InRange (items_of w) first (next + 1)) before after later.list.items later.stack.items later.left.items
-put_item w limit first next before mid after hand later low working table share sound p =
-    working_item (blocks_of w) (items_of w) first next before mid after (limit - length hand.stack.items) hand.list.items hand.stack.items hand.left.items p.more
-    later.list.items later.stack.items later.left.items low working table share sound p.claims_are p.kept p.list_is p.stack_is p.left_is
+put_item w limit first next before mid after hand later low =
+    put_items w limit first next (next + 1) (items_of w next) low (omega arith) (of_one (items_of w) next) (all_of_one (items_of w) next) before mid after hand later
 
 take_short : (n : ℕ) (xs : List ℕ) → length (take n xs) ≤ n
 take_short zero xs = omega arith
@@ -216,14 +271,8 @@ direct_none item list left list_is left_is = record { all_left = left_is ∙ sym
 
 pub direct_item : (targets : ℕ → List ℕ) (first i limit : ℕ) (mid after : Held) (hand later : Hand) → first ≤ i → limit ≡ 0 → IsDirect (InRange targets first i) hand.list.items hand.left.items
     → IsPutAway (targets i) limit mid after hand later → IsDirect (InRange targets first (i + 1)) later.list.items later.left.items
-direct_item targets first i limit mid after hand later low empty d p = record {
-  all_left = p.left_is ∙ ap (λ (l : List ℕ). l ++ drop (limit - length hand.stack.items) p.more) d.all_left ∙ ap (λ (n : ℕ). hand.list.items ++ drop n p.more) none ∙ sym p.list_is;
-  of_items = λ b h. ⊎_elim (λ old. let r = d.of_items b old in let below : r.0 < i = r.2 in (r.0, r.1, omega arith, r.3)) (λ new. (i, low, omega arith, p.kept.gains b new))
-      (of_append hand.list.items p.more b (subst (λ (l : List ℕ). Has l b) p.list_is h));
-}
-  where
-    none : limit - length hand.stack.items ≡ 0
-    none = let z = empty in omega arith
+direct_item targets first i limit mid after hand later low =
+    direct_items (λ s. []) targets first i (i + 1) (targets i) low (omega arith) (of_one targets i) (all_of_one targets i) limit mid after hand later
 
 -- ---- what is left, by what the stack holds
 

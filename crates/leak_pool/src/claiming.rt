@@ -4,6 +4,7 @@ ghost use Rattle.leak_marks.specs.Lists.{Has};
 ghost use Rattle.leak_marks.specs.Seats.{IsSound};
 ghost use Rattle.leak_pool.specs.Promises.{IsScanned};
 
+use crate::target_list::TargetList;
 use leak_elf::Words;
 use leak_index::Lookup;
 use leak_marks::{MarkSeat, Marks};
@@ -62,23 +63,23 @@ pub(crate) fn claim_listed(
 
 /// Claims the blocks of some lists, list by list, as [`claim_listed`] does.
 pub(crate) fn claim_lists(
-    lists: &[&[u32]],
+    lists: &[TargetList<'_>],
     marks: &Marks,
     seat: &mut MarkSeat,
     list: &mut Vec<u32>,
 ) -> Result<(), AllocError>
     requires table { seat.old.table ≡ marks.now.table }
-    requires inside { (b : ℕ) → Has (flat_map (λ l. l.now) lists.now) b → b < marks.now.blocks }
+    requires inside { (b : ℕ) → Has (flat_map (λ l. l.targets.now) lists.now) b → b < marks.now.blocks }
     requires sound { IsSound seat.old }
     ensures same { (seat.new.table ≡ seat.old.table) × (seat.new.share ≡ seat.old.share) }
     ensures sound { IsSound seat.new }
     ensures listed { (base : List ℕ) → seat.old.claims ≡ base ++ list.old.items
         → seat.new.claims ≡ base ++ list.new.items }
-    ensures done { IfOk result (λ _. IsScanned (Has (flat_map (λ l. l.now) lists.now)) []
+    ensures done { IfOk result (λ _. IsScanned (Has (flat_map (λ l. l.targets.now) lists.now)) []
         seat.old.seen list.old.items seat.new.seen list.new.items) }
 {
-    for targets in lists {
-        claim_listed(targets, marks, seat, list)?;
+    for of_block in lists {
+        claim_listed(of_block.targets, marks, seat, list)?;
     }
     Ok(())
 }

@@ -1,5 +1,5 @@
 //! A worker's way through the gate.
-ghost use Rattle.std.specs.Prelude.{◌≡◌, ◌+◌, ◌%◌, ◌^◌};
+ghost use Rattle.std.specs.Prelude.{◌≡◌, ◌+◌, ◌%◌, ◌^◌, ◌<◌, ℕ};
 
 use crate::gate::Gate;
 
@@ -30,5 +30,18 @@ impl<'a, G: Gate> Door<'a, G> {
     {
         self.gate.pass(self.worker, self.step);
         self.step = self.step.wrapping_add(1);
+    }
+    /// Returns when the worker may scan so many of its next items.
+    pub(crate) fn pass_items(&mut self, count: usize)
+        ensures passed { (j : ℕ) → j < count →
+            G.passed self.old.gate.now self.old.worker ((self.old.step + j) % 2 ^ 64) }
+        ensures counted { self.new.step ≡ (self.old.step + count) % 2 ^ 64 }
+        ensures same { (self.new.gate ≡ self.old.gate) × (self.new.worker ≡ self.old.worker) }
+    {
+        for item in 0..count {
+            self.gate
+                .pass(self.worker, self.step.wrapping_add(item as u64));
+        }
+        self.step = self.step.wrapping_add(count as u64);
     }
 }

@@ -13,6 +13,7 @@ use crate::claiming::{claim_listed, claim_lists};
 use crate::room::EdgeRoom;
 use crate::rows::{Rows, list_rows};
 use crate::scope::Scope;
+use crate::target_list::TargetList;
 use crate::target_source::{Item, TargetSource};
 use leak_elf::Words;
 use leak_index::Lookup;
@@ -79,38 +80,63 @@ pub(crate) fn edges_of<'a, 'b, R: Threads + Sync, W: Words + Sync, L: Lookup + S
 }
 
 /// What a block leads to, by the rows of `size` blocks each.
-pub(crate) fn listed_targets(rows: &[Rows], size: usize, block: u32) -> &[u32]
+#[inline(always)]
+fn target_list(rows: &[Rows], size: usize, block: u32) -> TargetList<'_>
     requires { (targets : List (List ℕ)) × AreEdges targets size rows.now × (block < length targets) }
     ensures { (targets : List (List ℕ)) → AreEdges targets size rows.now → block < length targets
-        → result.now ≡ targets_of_block targets block }
+        → result.targets.now ≡ targets_of_block targets block }
 {
     let block = block as usize;
     let row = &rows[block / size];
     let place = block % size;
     let start = row.starts[place] as usize;
     let end = row.starts[place + 1] as usize;
-    &row.targets[start..end]
+    TargetList {
+        targets: &row.targets[start..end],
+        ahead: None,
+    }
 }
 
-/// What some blocks lead to, block by block. Where each list lies is asked for before any is read, so that a processor
-/// waits for all of them at once.
+/// The targets alone.
+pub(crate) fn listed_targets(rows: &[Rows], size: usize, block: u32) -> &[u32]
+    requires { (targets : List (List ℕ)) × AreEdges targets size rows.now × (block < length targets) }
+    ensures { (targets : List (List ℕ)) → AreEdges targets size rows.now → block < length targets
+        → result.now ≡ targets_of_block targets block }
+{
+    target_list(rows, size, block).targets
+}
+
+/// Reads the first target of each list. It stands by itself so that little is done between one list and the next: a processor
+/// reads ahead so far only.
+#[inline(always)]
+fn read_ahead(lists: &mut [TargetList<'_>])
+    ensures { map (λ l. l.targets.now) lists.new ≡ map (λ l. l.targets.now) lists.old }
+{
+    for list in lists.iter_mut() {
+        list.ahead = list.targets.first().copied();
+    }
+}
+
+/// What some blocks lead to, block by block. Where the lists lie is asked for before the first target of any, and these before
+/// any list is read, so that each time a processor waits for all of them at once.
 pub(crate) fn lists_of<'a>(
     alloc: Global,
     rows: &'a [Rows],
     size: usize,
     blocks: &[u32],
-) -> Result<Vec<&'a [u32]>, AllocError>
+) -> Result<Vec<TargetList<'a>>, AllocError>
     requires { (targets : List (List ℕ)) × AreEdges targets size rows.now
         × ((b : ℕ) → Has blocks.now b → b < length targets) }
     ensures { (targets : List (List ℕ)) → AreEdges targets size rows.now
         → ((b : ℕ) → Has blocks.now b → b < length targets)
         → IfOk result (λ lists.
-        map (λ l. l.now) lists.items ≡ map (targets_of_block targets) blocks.now) }
+        map (λ l. l.targets.now) lists.items ≡ map (targets_of_block targets) blocks.now) }
 {
     let mut lists = Vec::with_capacity(alloc, blocks.len())?;
     for block in blocks {
-        lists.push(listed_targets(rows, size, *block))?;
+        lists.push(target_list(rows, size, *block))?;
     }
+    read_ahead(lists.as_mut_slice());
     Ok(lists)
 }
 

@@ -8,7 +8,7 @@ use std::alloc::AllocError;
 pub(crate) struct Hand {
     /// All of them, in the order of the claims.
     pub(crate) list: Vec<u32>,
-    /// Those of them that it scans before its next item, from the last on, several at once.
+    /// Those of them that it scans itself in the round, from the last on, several at once.
     pub(crate) stack: Vec<u32>,
     /// Those of them that wait for the next round.
     pub(crate) left: Vec<u32>,

@@ -1,5 +1,5 @@
 //! What the workers of a round scan.
-ghost use Rattle.std.specs.Prelude.{◌≡◌, ◌↔◌, ◌<◌, IsTrue, length, map, slice_index_or};
+ghost use Rattle.std.specs.Prelude.{◌≡◌, ◌↔◌, ◌<◌, ◌≤◌, ◌+◌, IsTrue, IfSome, length, map, take, drop, slice_index_or};
 ghost use Rattle.leak_pool.specs.Items.{items_in, AreMany};
 ghost use Rattle.leak_pool.specs.declared.target_source.Item.{Item};
 ghost use Rattle.leak_pool.specs.declared.target_source.Item.TheVariants.{Block};
@@ -39,6 +39,23 @@ impl<'a> Items<'a> {
         }
     }
 
+    /// If the items are blocks, the next of them from the number `from` on and before `end`: `most` of them, or all if they are
+    /// fewer.
+    pub(crate) fn next_blocks(&self, from: usize, end: usize, most: usize) -> Option<&'a [u32]>
+        requires some { from < end }
+        requires within { end ≤ length (items_in self.now) }
+        requires most { 0 < most }
+        ensures some { IfSome result (λ blocks. 0 < length blocks.now) }
+        ensures within { IfSome result (λ blocks. from + length blocks.now ≤ end) }
+        ensures are { IfSome result (λ blocks.
+            map Block blocks.now ≡ take (length blocks.now) (drop from (items_in self.now))) }
+    {
+        match self {
+            Items::Roots(_) => None,
+            Items::Blocks(blocks) => Some(first_of(blocks, from, (end - from).min(most))),
+        }
+    }
+
     /// Whether threads are worth their start. The roots are scanned once, and a part of them can have thousands of words.
     pub(crate) fn are_many(&self) -> bool
         ensures { IsTrue result ↔ AreMany (items_in self.now) }
@@ -56,4 +73,13 @@ fn block_at(blocks: &[u32], k: usize) -> Item
     ensures { (d : Item) → result ≡ slice_index_or (map Block blocks.now) k d }
 {
     Item::Block(blocks[k])
+}
+
+/// So many of a round's blocks, from the number `from` on.
+fn first_of<'a>(blocks: &'a [u32], from: usize, count: usize) -> &'a [u32]
+    requires { from + count ≤ length blocks.now }
+    ensures len { length result.now ≡ count }
+    ensures are { map Block result.now ≡ take count (drop from (map Block blocks.now)) }
+{
+    &blocks[from..from + count]
 }

@@ -13,8 +13,9 @@
 //! [`mark`], which marks one core over its words, and [`mark_alone`], which does so on the caller's thread, are for libraries
 //! and tests. So are gates ([`Gate`]) that hold a worker: the program's is [`Open`].
 //!
-//! Marking goes by rounds. After each item a worker empties its stack, on which it puts the blocks that it claims while
-//! the stack has fewer entries than the plan says; the others are left for the next round.
+//! Marking goes by rounds. A worker puts the blocks that it claims on its stack while that has fewer entries than the plan
+//! says; the others are left for the next round. Before its next items it scans what is on the stack, unless that are so few
+//! blocks that more can be scanned at once.
 //!
 //! Sources: bdwgc's marking (an object is kept if a chain of words leads to it from a root); Boehm, Demers and
 //! Shenker, PLDI 1991, for marking from an earlier state. Rounds, pieces, stacks and claims are own rule.
@@ -59,6 +60,7 @@ mod scope;
 mod search;
 mod sharing;
 mod start;
+mod target_list;
 mod target_source;
 mod task;
 mod worker;

@@ -11,9 +11,14 @@ ghost use Rattle.leak_pool.specs.Scopes.{all_targets};
 use leak_blocks::Block;
 use leak_elf::Words;
 use leak_index::Lookup;
-use leak_scan::{BlockRuns, Targets, kept_in_block, list_run, list_words};
+use leak_scan::{BlockRuns, Targets, kept_between, kept_in_block, list_run, list_words};
 use std::alloc::{AllocError, Global};
 use std::thread::{Threads, join};
+
+/// Of how many blocks the words are asked for before those of the first are looked up.
+const AHEAD: usize = 32;
+/// And of how many words.
+const MANY: usize = 256;
 
 /// What some blocks lead to, block by block.
 #[derive(Drop)]
@@ -76,6 +81,62 @@ fn list_block<W: Words, L: Lookup>(
     list_targets(found, room, targets)
 }
 
+/// How many targets the first of the blocks have at the least, as far as the memory has their words as one slice. To count
+/// them, the lookup reads what it knows of all these words; if it read that word by word, a processor would wait each time. Of a
+/// long slice the first words will do.
+fn count_ahead<W: Words, L: Lookup>(words: &W, lookup: &L, blocks: &[Block]) -> usize {
+    let (next, _) = blocks.split_at(blocks.len().min(AHEAD));
+    let (Some(first), Some(last)) = (next.first(), next.last()) else {
+        return 0;
+    };
+    let end = last.start.saturating_add(last.size);
+    match kept_between(words, lookup, first.start, end) {
+        Some(kept) => lookup.count_leading(&kept[..kept.len().min(MANY)]),
+        None => 0,
+    }
+}
+
+/// Makes room for targets of the blocks that are left, once for each so many of them.
+#[inline(always)]
+fn reserve_ahead<W: Words, L: Lookup>(
+    words: &W,
+    lookup: &L,
+    left: &[Block],
+    targets: &mut Vec<u32>,
+) -> Result<(), AllocError>
+    ensures { targets.new.items ≡ targets.old.items }
+{
+    if left.len() % AHEAD != 0 {
+        return Ok(());
+    }
+    targets.reserve(count_ahead(words, lookup, left))
+}
+
+/// Appends what a block leads to, as [`list_block`] does, after a look ahead at the blocks that are left.
+#[inline(always)]
+fn list_next<W: Words, L: Lookup>(
+    runs: &mut BlockRuns<'_, W>,
+    lookup: &L,
+    block: &Block,
+    left: &[Block],
+    room: usize,
+    targets: &mut Vec<u32>,
+) -> Result<bool, AllocError>
+    requires few { length (L.index lookup.now).blocks < 2 ^ 32 }
+    requires within { length targets.old.items ≤ room }
+    ensures same { runs.new.words.now ≡ runs.old.words.now }
+    ensures within { length targets.new.items ≤ room }
+    ensures listed { let words = block_words (W.word_at runs.old.words.now) block.now in
+        let led = targets_of (L.index lookup.now) words in
+        IfOk result (λ fits. IsTrue fits → targets.new.items ≡ targets.old.items ++ led) }
+    ensures over { let words = block_words (W.word_at runs.old.words.now) block.now in
+        let led = targets_of (L.index lookup.now) words in
+        IfOk result (λ fits. IsFalse fits → room < length targets.old.items + length led) }
+{
+    reserve_ahead(runs.words, lookup, left, targets)?;
+    list_block(runs, lookup, block, room, targets)
+}
+
 /// What the blocks lead to, unless they lead to more than `room`.
 fn rows_of<W: Words, L: Lookup>(
     alloc: Global,
@@ -92,10 +153,18 @@ fn rows_of<W: Words, L: Lookup>(
     let mut starts = Vec::new(alloc);
     starts.push(0)?;
     starts.reserve(blocks.len())?;
-    let mut targets = Vec::new(alloc);
+    let mut targets = Vec::with_capacity(alloc, MANY)?;
     let mut runs = BlockRuns::new(words);
     for k in 0..blocks.len() {
-        if !list_block(&mut runs, lookup, &blocks[k], room as usize, &mut targets)? {
+        let left = &blocks[k..];
+        if !list_next(
+            &mut runs,
+            lookup,
+            &blocks[k],
+            left,
+            room as usize,
+            &mut targets,
+        )? {
             return Ok(None);
         }
         starts.push(targets.len() as u32)?;

@@ -9,10 +9,9 @@ ghost use Rattle.leak_replaying.specs.Replaying.{HasPassed, IsAtEnd};
 ghost use Rattle.leak_replaying.specs.Texts.{AreKeptOf};
 
 use crate::log_so_far::LogSoFar;
-use crate::texts::{KeptTexts, narrowed};
+use crate::texts::{KeptTexts, chosen_numbers};
 use leak_blocks::{Replayed, SmallSpans, Stage};
 use leak_mtrace::LogError;
-use leak_texts::gather;
 use std::alloc::{AllocError, Global};
 
 /// A log that was replayed while it was read.
@@ -43,10 +42,10 @@ fn finish(
     } else {
         SmallSpans::none(alloc)
     };
-    let numbers = gather(alloc, log.numbers.as_slice(), stage.numbers())?;
     let (bytes, places) = log.texts.finish();
+    let (numbers, live) = (log.numbers.as_slice(), stage.numbers());
     let texts = KeptTexts {
-        numbers: narrowed(alloc, numbers, places.len())?,
+        numbers: chosen_numbers(alloc, numbers, live, places.len())?,
         bytes,
         places,
     };

@@ -1,8 +1,9 @@
 //! The texts of the callers of blocks, kept in place of the log that has them.
 
-ghost use Rattle.std.specs.Prelude.{◌≡◌, ◌<◌, ℕ, List, [], All, IfOk};
+ghost use Rattle.std.specs.Prelude.{◌≡◌, ◌<◌, ℕ, List, [], length, map, slice_index_or, All, IfOk};
 ghost use Rattle.leak_replaying.specs.Texts.{AreKeptOf, numbers_in};
 
+use leak_texts::gather;
 use std::alloc::{AllocError, Global};
 
 /// Numbers of texts, one for each block. Few texts are common: a log of a process that was not traced has one for each
@@ -38,22 +39,25 @@ impl KeptTexts {
     }
 }
 
-/// The numbers of blocks among so many texts, in one byte each if that is enough: a list of them stands beside the core's
-/// words until the report is written.
-pub(crate) fn narrowed(
+/// The numbers at the chosen places, of so many texts, in one byte each if that is enough: a list of them stands beside the
+/// core's words until the report is written.
+pub(crate) fn chosen_numbers(
     alloc: Global,
-    numbers: Vec<u32>,
+    numbers: &[u32],
+    chosen: &[usize],
     texts: usize,
 ) -> Result<Numbers, AllocError>
-    requires { All (λ n. n < texts) numbers.items }
-    ensures { IfOk result (λ narrow. numbers_in narrow ≡ numbers.items) }
+    requires within { All (λ k. k < length numbers.now) chosen.now }
+    requires few { All (λ n. n < texts) (map (λ k. slice_index_or numbers.now k 0) chosen.now) }
+    ensures { IfOk result (λ narrow. numbers_in narrow
+        ≡ map (λ k. slice_index_or numbers.now k 0) chosen.now) }
 {
     if texts > 256 {
-        return Ok(Numbers::Many(numbers));
+        return Ok(Numbers::Many(gather(alloc, numbers, chosen)?));
     }
-    let mut narrow = Vec::with_capacity(alloc, numbers.len())?;
-    for k in 0..numbers.len() {
-        narrow.push(numbers[k] as u8)?;
+    let mut narrow = Vec::with_capacity(alloc, chosen.len())?;
+    for k in chosen {
+        narrow.push(numbers[*k] as u8)?;
     }
     Ok(Numbers::Few(narrow))
 }

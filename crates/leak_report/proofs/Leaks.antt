@@ -157,6 +157,14 @@ pub marked_later : (set : List Bool) (blocks : List Block) (i : ℕ) (d : Bool) 
     → marked_in (drop i set) (drop i blocks) ≡ marked_in (drop (i + 1) set) (drop (i + 1) blocks)
 marked_later set blocks i d b p q e = rw (drop-cons set i d, drop-cons blocks i b, e, add-one) refl
 
+pub leaked_later : (set : List Bool) (blocks : List Block) (i : ℕ) (d : Bool) (b : Block) → i < length set → i < length blocks → get_or set i d ≡ true
+    → leaked_in (drop i set) (drop i blocks) ≡ leaked_in (drop (i + 1) set) (drop (i + 1) blocks)
+leaked_later set blocks i d b p q e = rw (drop-cons set i d, drop-cons blocks i b, e, add-one) refl
+
+pub leaked_next : (set : List Bool) (blocks : List Block) (i : ℕ) (d : Bool) (b : Block) → i < length set → i < length blocks → get_or set i d ≡ false
+    → leaked_in (drop i set) (drop i blocks) ≡ get_or blocks i b ∷ leaked_in (drop (i + 1) set) (drop (i + 1) blocks)
+leaked_next set blocks i d b p q e = rw (drop-cons set i d, drop-cons blocks i b, e, add-one) refl
+
 pub bytes_of-marked : (set : List Bool) (blocks : List Block) → bytes_of (marked_in set blocks) ≤ bytes_of blocks
 bytes_of-marked [] blocks = omega arith
 bytes_of-marked (s ∷ set) [] = omega arith

@@ -57,9 +57,8 @@ impl Totals {
             ≡ rows_of log.now (leaks_in set.now heads.now live.now.blocks)) }
     {
         let blocks = live.blocks();
-        let bytes = live.bytes();
-        let (marked, marked_bytes) = marked_sizes(blocks, set);
-        let number = blocks.len() as u64 - marked;
+        let _ = live.bytes(); // (for the proof: the sum of all sizes is a number)
+        let (number, bytes) = leaked_sizes(blocks, set);
         let prefix = prefix_of(blocks, set, number, log);
         let leaked = Leaked {
             prefix,
@@ -71,11 +70,29 @@ impl Totals {
         let rows = ranked_rows(alloc, &leaked)?;
         Ok(Totals {
             blocks: number,
-            bytes: bytes - marked_bytes,
+            bytes,
             heads: count_heads(blocks, set, heads),
             rows,
         })
     }
+}
+
+/// The number of the blocks that the set leaves out, and the sum of their sizes. Few blocks leak, and the others are not read.
+fn leaked_sizes(blocks: &[Block], set: &[bool]) -> (u64, u64)
+    requires one_each { length set.now ≡ length blocks.now }
+    requires fits { bytes_of blocks.now < 2 ^ 64 }
+    ensures number { result.0 ≡ length (leaked_in set.now blocks.now) }
+    ensures bytes { result.1 ≡ bytes_of (leaked_in set.now blocks.now) }
+{
+    let mut number = 0;
+    let mut bytes = 0;
+    for (i, block) in blocks.iter().enumerate() {
+        if !set[i] {
+            number += 1;
+            bytes += block.size;
+        }
+    }
+    (number, bytes)
 }
 
 /// The number of the marked blocks, and the sum of their sizes.

@@ -11,6 +11,8 @@ pub mod PushLemmas
 pub mod AheadLemmas
 pub mod AppendLemmas
 pub mod RetainBitsLemmas
+pub mod RestLemmas
+pub mod MoveLemmas
 pub mod RetainLemmas
 pub mod PushedLemmas
 pub mod WholeLemmas

@@ -13,7 +13,7 @@ use Rattle.leak_sparse.specs.declared.group.Group.{Group}
 use Rattle.leak_sparse.specs.Bits.{IsLowestFrom}
 use Rattle.leak_sparse.specs.Groups.{AreBitsBetween, AreGroups, AreGroupsBetween, empty, kept_in, word_in}
 use Rattle.leak_sparse.specs.Words.{is_between}
-use Rattle.leak_sparse.proofs.BitLemmas.{below_next, bit_below, bit_here, grows, ones_of_low, ones_of_none, ones_step}
+use Rattle.leak_sparse.proofs.BitLemmas.{below_next, bit_below, bit_here, grows, ones_of_low, ones_step}
 use Rattle.leak_sparse.proofs.RankLemmas.{bits_of, kept_more}
 use Rattle.leak_sparse.proofs.ViewLemmas.{in_set}
 
@@ -75,29 +75,8 @@ module _ (low high : ℕ) (kept : List ℕ) (group : Group) where
       let all = subst (λ (k : ℕ). AreBitsTo low high kept group bits k) end to in
       record { narrow = all.below; each = all.each }
 
-  -- ---- fewer bits than before
+  -- ---- a lower number than before
 
-  fewer_here : (bits k x y : ℕ) → AreBitsBetween low high kept group bits → k < 64 → x ≤ y → bit_at bits k + x ≤ bit_at group.bits k + y
-  fewer_here bits k x y are h l = go (chosen (is_between low high (word_in group kept k)) (bit_at bits k) (bit_at group.bits k) (are.each k h))
-    where
-      go : (bit_at bits k ≡ bit_at group.bits k) ⊎ (bit_at bits k ≡ 0) → bit_at bits k + x ≤ bit_at group.bits k + y
-      go (inl e) = omega (arith, e, l)
-      go (inr e) = omega (arith, e, l)
-
-  fewer_to : (bits : ℕ) → AreBitsBetween low high kept group bits → (k : ℕ) → k ≤ 64 → count_ones (bits % 2 ^ k) ≤ count_ones (group.bits % 2 ^ k)
-  fewer_to bits are zero h =
-      let e : bits % 1 ≡ 0 = omega arith in
-      let none : count_ones (bits % 1) ≡ 0 = ap count_ones e ∙ ones_of_none in
-      subst (λ (n : ℕ). n ≤ count_ones (group.bits % 2 ^ 0)) (sym none) (omega arith)
-  fewer_to bits are (suc k) h =
-      let at : k + 1 ≡ suc k = omega arith in
-      subst (λ (n : ℕ). count_ones (bits % 2 ^ n) ≤ count_ones (group.bits % 2 ^ n)) at
-      (omega (arith, ones_step bits k, ones_step group.bits k, fewer_here bits k (count_ones (bits % 2 ^ k)) (count_ones (group.bits % 2 ^ k)) are (omega (arith, h)) (fewer_to bits are k (omega (arith, h)))))
-
-  pub fewer_ones : (bits : ℕ) → AreBitsBetween low high kept group bits → group.bits < 2 ^ 64 → count_ones bits ≤ count_ones group.bits
-  fewer_ones bits are narrow = omega (arith, fewer_to bits are 64 (omega arith), ones_of_low bits 64 are.narrow, ones_of_low group.bits 64 narrow)
-
-  -- and a lower number
   weighed : (x y a b p : ℕ) → (x ≡ y) ⊎ (x ≡ 0) → a ≤ b → x * p + a ≤ y * p + b
   weighed x y a b p (inl e) h = subst (λ (z : ℕ). x * p + a ≤ z * p + b) e (omega (arith, h))
   weighed x y a b p (inr e) h = subst (λ (z : ℕ). z * p + a ≤ y * p + b) (sym e) (omega (arith, h))
@@ -173,12 +152,6 @@ module _ (low high : ℕ) (kept : List ℕ) (group : Group) (bits rank from bit 
       subst (λ (n : ℕ). AreBitsTo low high kept group (bits + n) (bit + 1)) (sym (one_shl bit 64 lowest.within))
       (bits_in low high kept group bits bit (reached to) lowest.set (ap (is_between low high) word_here ∙ stays))
 
-  pub bit_fits : AreBitsTo low high kept group bits from → bits + 1 * 2 ^ bit % 2 ^ 64 < 2 ^ 64
-  bit_fits to =
-      let at = reached to in
-      subst (λ (n : ℕ). bits + n < 2 ^ 64) (sym (one_shl bit 64 lowest.within))
-      (grows (bits + 2 ^ bit) (bit + 1) 64 (below_next bits bit at.below) (omega (arith, lowest.within)))
-
   -- whether it stays or goes
   pub after_either : AreBitsTo low high kept group bits from → (b : Bool) (n : ℕ) → b ≡ is_between low high (get_or kept rank 0) → n ≡ bool_byte b → AreBitsTo low high kept group (bits + n * 2 ^ bit % 2 ^ 64) (bit + 1)
   after_either to true n e is = subst (λ (m : ℕ). AreBitsTo low high kept group (bits + m * 2 ^ bit % 2 ^ 64) (bit + 1)) (sym is) (after_in to (sym e))
@@ -186,12 +159,6 @@ module _ (low high : ℕ) (kept : List ℕ) (group : Group) (bits rank from bit 
       let same : bits ≡ bits + 0 * 2 ^ bit % 2 ^ 64 = omega arith in
       subst (λ (m : ℕ). AreBitsTo low high kept group (bits + m * 2 ^ bit % 2 ^ 64) (bit + 1)) (sym is)
       (subst (λ (m : ℕ). AreBitsTo low high kept group m (bit + 1)) same (after_out to (sym e)))
-
-  pub either_fits : AreBitsTo low high kept group bits from → (b : Bool) (n : ℕ) → n ≡ bool_byte b → bits + n * 2 ^ bit % 2 ^ 64 < 2 ^ 64
-  either_fits to true n is = subst (λ (m : ℕ). bits + m * 2 ^ bit % 2 ^ 64 < 2 ^ 64) (sym is) (bit_fits to)
-  either_fits to false n is =
-      let small : bits < 2 ^ 64 = grows bits bit 64 (reached to).below (omega (arith, lowest.within)) in
-      subst (λ (m : ℕ). bits + m * 2 ^ bit % 2 ^ 64 < 2 ^ 64) (sym is) (omega (arith, small))
 
 -- ---- the groups so far
 
@@ -201,7 +168,6 @@ pub record AreGroupsTo (low high : ℕ) (kept : List ℕ) (groups now : List Gro
   pub counted : (g : ℕ) → g < number → (get_or now g (empty 0)).before ≡ kept_in (take g now)
   pub rest : (g : ℕ) → number ≤ g → get_or now g (empty 0) ≡ get_or groups g (empty 0)
   pub so_far : before ≡ kept_in (take number now)
-  pub fewer : before ≤ kept_in (take number groups)
 
 pub groups_none : (low high : ℕ) (kept : List ℕ) (groups : List Group) → AreGroupsTo low high kept groups groups 0 0
 groups_none low high kept groups = record {
@@ -210,18 +176,16 @@ groups_none low high kept groups = record {
   counted = λ g h. absurd (omega (arith, h));
   rest = λ g h. refl;
   so_far = refl;
-  fewer = omega arith;
 }
 
-pub groups_next : (low high : ℕ) (kept : List ℕ) (groups now : List Group) (number before bits : ℕ) → AreGroupsTo low high kept groups now number before → number < length groups → bits_of groups number < 2 ^ 64
+pub groups_next : (low high : ℕ) (kept : List ℕ) (groups now : List Group) (number before bits : ℕ) → AreGroupsTo low high kept groups now number before → number < length groups
     → AreBitsBetween low high kept (get_or groups number (empty 0)) bits → AreGroupsTo low high kept groups (set now number (record { bits = bits; before = before })) (number + 1) (before + count_ones bits)
-groups_next low high kept groups now number before bits to h narrow are = record {
+groups_next low high kept groups now number before bits to h are = record {
   long = length-set now number new ∙ to.long;
   bits = λ g l. bits_at g l (cases_eq g number);
   counted = λ g l. counted_at g l (cases_eq g number);
   rest = λ g l. get_or-set_other now number g new (empty 0) (λ e. omega (arith, e, l)) ∙ to.rest g (omega (arith, l));
   so_far = sum;
-  fewer = omega (arith, to.fewer, kept_more groups number, fewer_ones low high kept (get_or groups number (empty 0)) bits are narrow);
 }
   where
     new : Group
@@ -264,20 +228,8 @@ groups_all low high kept groups now number before to past = record {
   before = λ g h. to.counted g (omega (arith, h, past));
 }
 
--- ---- what the code reads and counts
+-- ---- what the code reads
 
 pub group_held : (groups : List Group) (kept : List ℕ) (len g : ℕ) → AreGroups groups kept len → g < length groups → (get_or groups g (empty 0)).before + count_ones (bits_of groups g) ≤ length kept
 group_held groups kept len g are h =
     omega (arith, are.before g h, kept_more groups g, sum_by-take-le (λ (group : Group). count_ones group.bits) groups (g + 1), are.whole)
-
-pub counts_fit : (low high : ℕ) (kept : List ℕ) (groups now : List Group) (len number before bits : ℕ) → AreGroups groups kept len → AreGroupsTo low high kept groups now number before
-    → AreBitsBetween low high kept (get_or groups number (empty 0)) bits → before + count_ones bits ≤ length kept
-counts_fit low high kept groups now len number before bits are to here =
-    omega (
-      arith,
-      to.fewer,
-      kept_more groups number,
-      fewer_ones low high kept (get_or groups number (empty 0)) bits here (are.narrow number),
-      sum_by-take-le (λ (group : Group). count_ones group.bits) groups (number + 1),
-      are.whole,
-    )

@@ -1,5 +1,5 @@
 -- Groups of 64 places, and the words of a list that they keep.
-use Rattle.std.specs.Prelude.{◌≡◌, ◌≢◌, ℕ, ◌+◌, ◌-◌, ◌*◌, ◌/◌, ◌%◌, ◌^◌, ◌<◌, ◌≤◌, ◌==◌, if◌then◌else◌, List, ◌++◌, length, map, replicate, take, slice_index, slice_index_or, count_ones}
+use Rattle.std.specs.Prelude.{◌≡◌, ◌≢◌, ℕ, ◌+◌, ◌-◌, ◌*◌, ◌/◌, ◌%◌, ◌^◌, ◌<◌, ◌≤◌, ◌==◌, if◌then◌else◌, List, ◌++◌, length, map, filter, replicate, take, slice_index, slice_index_or, count_ones}
 use Rattle.std.specs.Int.{bit_at}
 use Rattle.std.specs.List.{range_with_len, sum_by}
 use Rattle.leak_sparse.specs.declared.group.Group.{Group}
@@ -63,3 +63,10 @@ pub record AreGroupsBetween (low high : ℕ) (kept : List ℕ) (groups now : Lis
   pub long : length now ≡ length groups
   pub bits : (g : ℕ) → g < length groups → AreBitsBetween low high kept (slice_index_or groups g (empty 0)) (slice_index_or now g (empty 0)).bits
   pub before : (g : ℕ) → g < length groups → (slice_index_or now g (empty 0)).before ≡ kept_in (take g now)
+
+-- of the words before this rank those that are neither below nor above are in front, and the others from it on are as they were
+pub record AreMoved (low high : ℕ) (kept now : List ℕ) (front rank : ℕ) : Type 0 where
+  pub within : front ≤ rank
+  pub long : length now ≡ length kept
+  pub front_words : take front now ≡ filter (is_between low high) (take rank kept)
+  pub rest : (k : ℕ) → rank ≤ k → slice_index now k ≡ slice_index kept k

@@ -3,8 +3,6 @@ ghost use Rattle.std.specs.Prelude.{◌≡◌, ◌+◌, ◌^◌, ◌<◌, ◌≤
 ghost use Rattle.std.specs.Int.{w64, from_le_bytes};
 ghost use Rattle.leak_sparse.specs.Pushed.{AreNonzeroBits, ArePushed};
 
-use crate::group::lowest_from;
-
 /// The word that 8 bytes are.
 #[inline(always)]
 fn word_of(bytes: &[u8; 8]) -> u64
@@ -20,14 +18,12 @@ pub(crate) fn nonzero_bits(bits: u64, words: &[[u8; 8]]) -> u64
     ensures { AreNonzeroBits bits words.now result }
 {
     let mut nonzero = 0;
-    let mut from = 0;
-    while from < 64 {
-        let Some(bit) = lowest_from(bits, from) else {
-            return nonzero;
-        };
+    let mut rest = bits;
+    while rest != 0 {
+        let bit = rest.trailing_zeros() as usize;
         // No branch: which words are 0 is hard to foresee.
         nonzero += u64::from(word_of(&words[bit]) != 0) << bit;
-        from = bit + 1;
+        rest &= rest - 1;
     }
     nonzero
 }
@@ -40,12 +36,10 @@ pub(crate) fn push_set(kept: &mut Vec<u64>, bits: u64, words: &[[u8; 8]])
     requires room { vec_len kept.old + count_ones bits ≤ vec_capacity kept.old }
     ensures { ArePushed bits words.now kept.old.items kept.new.items }
 {
-    let mut from = 0;
-    while from < 64 {
-        let Some(bit) = lowest_from(bits, from) else {
-            return;
-        };
+    let mut rest = bits;
+    while rest != 0 {
+        let bit = rest.trailing_zeros() as usize;
         kept.push_reserved(word_of(&words[bit]));
-        from = bit + 1;
+        rest &= rest - 1;
     }
 }

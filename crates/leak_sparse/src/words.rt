@@ -6,7 +6,7 @@ ghost use Rattle.leak_sparse.specs.Words.{AreZerosTo, HasRoom, IsNextKept, NoneK
 
 use crate::group::{Group, add_groups, cover, has, lowest_from, ones_below};
 use crate::pushing::{nonzero_bits, push_set};
-use crate::retaining::{keep_between, move_between};
+use crate::retaining::keep_between;
 use std::alloc::{AllocError, Global};
 use std::marker::Model;
 
@@ -173,8 +173,7 @@ impl SparseWords {
             mut kept,
             len,
         } = self;
-        keep_between(groups.as_mut_slice(), kept.as_slice(), low, high);
-        let left = move_between(kept.as_mut_slice(), low, high);
+        let left = keep_between(groups.as_mut_slice(), kept.as_mut_slice(), low, high);
         kept.truncate(left);
         kept.shrink_to_fit();
         SparseWords { groups, kept, len }

@@ -7,7 +7,7 @@ use Rattle.leak_index.proofs.RowCounts.{apart_last}
 use Rattle.leak_index.proofs.ranks.is_apart.Goals as goal
 
 pub overflow_sub-result : goal.overflow_sub-result
-overflow_sub-result c = ascending c.args.blocks.now c.requires.disjoint (c.args.number - 1) c.args.number none (omega arith) c.requires.inside
+overflow_sub-result c = omega (arith, c.requires.here, ascending c.args.blocks.now c.requires.disjoint (c.args.number - 1) c.args.number none (omega arith) c.requires.inside)
 
 pub returns : goal.returns
-returns c = λ t. apart_last c.args.blocks.now c.args.number c.requires.disjoint c.requires.inside c.if-number-eq0.false (omega (arith, ltb→lt _ _ (passes _ t)))
+returns c = λ t. apart_last c.args.blocks.now c.args.number c.requires.disjoint c.requires.inside c.if-number-eq0.false (omega (arith, c.requires.here, ltb→lt _ _ (passes _ t)))

@@ -7,4 +7,4 @@ use Rattle.leak_pool.proofs.edges.lists_of.Given as goal
 
 abbrev pub invariant-loop-block : goal.invariant-loop-block
 invariant-loop-block l = (targets : List (List ℕ)) → AreEdges targets l.size l.rows → ((b : ℕ) → Has l.blocks b → b < length targets)
-    → map (λ x. x.now) l.lists.items ≡ map (targets_of_block targets) (take l.block-index l.blocks)
+    → map (λ x. x.targets.now) l.lists.items ≡ map (targets_of_block targets) (take l.block-index l.blocks)

@@ -11,10 +11,10 @@ pub loop-k-preserved : goal.loop-k-preserved
 loop-k-preserved g c =
     let w = g.W.Words.word_at c.args.words.now in let i = g.L.Lookup.index c.args.lookup.now in
     let here = target_of w i c.args.blocks.now c.loop-k.k _ (omega arith) in
-    let grown = moved _ w i _ _ _ _ c.loop-k.invariant.same (c.in_ok-list_block.ensures.listed (search rules)) in
+    let grown = moved _ w i _ _ _ _ c.loop-k.invariant.same (c.in_ok-list_next.ensures.listed (search rules)) in
     record {
-      same = ap (λ m. g.W.Words.word_at m) c.in_ok-list_block.ensures.same ∙ c.loop-k.invariant.same;
-      within = c.in_ok-list_block.ensures.within;
+      same = ap (λ m. g.W.Words.word_at m) c.in_ok-list_next.ensures.same ∙ c.loop-k.invariant.same;
+      within = c.in_ok-list_next.ensures.within;
       listed = listed_more (targets_of_block (map (block_targets w i) c.args.blocks.now)) c.loop-k.k c.loop-k.starts.items c.loop-k.targets.items _ _ _ c.loop-k.invariant.listed
           grown here (let e = c.in_ok-push-2.ensures.items in let l = c.len.ensures in search (e, l, rules));
       count = count_more (map (block_targets w i) c.args.blocks.now) c.loop-k.k c.loop-k.targets.items _ _ (let l = length-map c.args.blocks.now (block_targets w i) in omega (arith, l)) c.loop-k.invariant.count grown here;
@@ -25,7 +25,7 @@ returns-then-not-branch g c =
     let w = g.W.Words.word_at c.args.words.now in let i = g.L.Lookup.index c.args.lookup.now in
     count_over (map (block_targets w i) c.args.blocks.now) c.loop-k.k c.args.room c.loop-k.targets.items _ (let l = length-map c.args.blocks.now (block_targets w i) in omega (arith, l)) c.loop-k.invariant.count
     (target_of w i c.args.blocks.now c.loop-k.k _ (omega arith))
-    (same_over _ w i _ _ _ _ c.loop-k.invariant.same (c.in_ok-list_block.ensures.over (search rules)))
+    (same_over _ w i _ _ _ _ c.loop-k.invariant.same (c.in_ok-list_next.ensures.over (search rules)))
 
 pub returns : goal.returns
 returns g c =

@@ -1,5 +1,6 @@
 -- From the lemmas of FinishingLemmas.
-use Rattle.std.proofs.Common.{◌≡◌, ◌∙◌, ℕ, ◌<◌, List, length, refl, sym, subst, arith}
+use Rattle.std.proofs.Common.{◌≡◌, ◌∙◌, ℕ, ◌<◌, List, length, map, refl, sym, subst, arith}
+use Rattle.std.specs.Prelude.{slice_index_or}
 use Rattle.std.specs.List.{All}
 use Rattle.leak_blocks.specs.Live.{Replay, replay_of}
 use Rattle.leak_replaying.specs.Texts.{numbers_in}
@@ -12,20 +13,20 @@ pub small_spans-requires : goal.small_spans-requires
 small_spans-requires c =
     (c.requires.1, lines_fit c.args.log c.requires.0 c.requires.1 c.args.stage.allocated.items c.requires.2, c.requires.3, c.requires.2.all c.if-log.true)
 
-pub gather-requires : goal.gather-requires
-gather-requires c =
-    let inside : All (λ n. n < length c.args.stage.allocated.items) c.numbers.result.now = c.numbers.ensures.within c.requires.1 c.requires.3 in
-    subst (λ (ns : List ℕ). All (λ k. k < length ns) c.numbers.result.now) (sym c.as_slice.ensures.value)
-    (within_numbers c.requires.0 c.args.stage.allocated.items c.args.log.texts c.args.log.numbers.items c.numbers.result.now c.requires.2.texts inside)
+pub chosen_numbers-requires-clause-within : goal.chosen_numbers-requires-clause-within
+chosen_numbers-requires-clause-within c =
+    let inside : All (λ n. n < length c.args.stage.allocated.items) c.numbers-live.result.now = c.numbers-live.ensures.within c.requires.1 c.requires.3 in
+    subst (λ (ns : List ℕ). All (λ k. k < length ns) c.numbers-live.result.now) (sym c.as_slice-numbers.ensures.value)
+    (within_numbers c.requires.0 c.args.stage.allocated.items c.args.log.texts c.args.log.numbers.items c.numbers-live.result.now c.requires.2.texts inside)
 
-pub narrowed-requires : goal.narrowed-requires
-narrowed-requires c =
-    let inside : All (λ n. n < length c.args.stage.allocated.items) c.numbers.result.now = c.numbers.ensures.within c.requires.1 c.requires.3 in
+pub chosen_numbers-requires-clause-few : goal.chosen_numbers-requires-clause-few
+chosen_numbers-requires-clause-few c =
+    let inside : All (λ n. n < length c.args.stage.allocated.items) c.numbers-live.result.now = c.numbers-live.ensures.within c.requires.1 c.requires.3 in
     let long : length c.finish-bytes.result.1.items ≡ length c.args.log.texts = places_long c.finish-bytes.result.0.items c.finish-bytes.result.1.items c.args.log.texts c.finish-bytes.ensures.texts in
     let count : length c.args.log.texts ≡ c.len.result = omega (arith, c.len.ensures, long, c.finish-bytes.result.1.ok.0) in
-    subst (λ (n : ℕ). All (λ k. k < n) c.in_ok-numbers.numbers.items) count
-    (live_below c.args.log c.requires.0 c.requires.1 c.args.stage c.requires.2 c.requires.3 c.as_slice.result.now c.numbers.result.now c.in_ok-numbers.numbers.items
-    c.as_slice.ensures.value c.numbers.ensures.value inside c.in_ok-numbers.ensures)
+    subst (λ (n : ℕ). All (λ k. k < n) (map (λ k. slice_index_or c.as_slice-numbers.result.now k 0) c.numbers-live.result.now)) count
+    (live_below c.args.log c.requires.0 c.requires.1 c.args.stage c.requires.2 c.requires.3 c.as_slice-numbers.result.now c.numbers-live.result.now _
+    c.as_slice-numbers.ensures.value c.numbers-live.ensures.value inside refl)
 
 pub live-requires : goal.live-requires
 live-requires c =
@@ -42,7 +43,7 @@ returns c = λ passed lines has after end.
       | else-log w ↦ rw w.small-is (spans_not_asked c.args.log.spans lines read _ w.if-log.false w.none-small.ensures)
     ] in (
       (lines, comes_to c.args.log passed lines c.args.stage.allocated.items _ has end.none_left live torn refl, spans),
-      live_have_texts c.args.log passed lines c.args.stage has after c.as_slice.result.now c.numbers.result.now c.in_ok-numbers.numbers.items c.as_slice.ensures.value c.numbers.ensures.value
-          (c.numbers.ensures.within lines after) c.in_ok-numbers.ensures read c.finish-bytes.result.0.items (numbers_in c.in_ok-narrowed.field-0) c.finish-bytes.result.1.items
-          live c.in_ok-narrowed.ensures c.finish-bytes.ensures.texts,
+      live_have_texts c.args.log passed lines c.args.stage has after c.as_slice-numbers.result.now c.numbers-live.result.now _ c.as_slice-numbers.ensures.value c.numbers-live.ensures.value
+          (c.numbers-live.ensures.within lines after) refl read c.finish-bytes.result.0.items (numbers_in c.in_ok-chosen_numbers.field-0) c.finish-bytes.result.1.items
+          live c.in_ok-chosen_numbers.ensures c.finish-bytes.ensures.texts,
     )

@@ -10,8 +10,8 @@ overflow_sub-last c =
     let made = c.in_ok-reach.ensures in
     omega (arith, count, (last_row c.args.blocks.now c.args.number c.reach.new.self.next c.reach.new.self.numbers.items c.reach.new.self.places.items rows (empty 0) (omega (arith, made.1)) made.0).0)
 
-pub index_mut-requires : goal.index_mut-requires
-index_mut-requires c =
+pub index_mut-row-requires : goal.index_mut-row-requires
+index_mut-row-requires c =
     let rows = c.reach.new.self.rows.items in
     let count : c.len-last.result ≡ length rows = c.len-last.ensures ∙ c.reach.new.self.rows.ok.0 in
     let made = c.in_ok-reach.ensures in
@@ -22,7 +22,7 @@ with-requires-clause-row c =
     let rows = c.reach.new.self.rows.items in
     let count : c.len-last.result ≡ length rows = c.len-last.ensures ∙ c.reach.new.self.rows.ok.0 in
     let made = c.in_ok-reach.ensures in
-    last_read c.args.blocks.now c.args.number c.reach.new.self.next c.reach.new.self.numbers.items c.reach.new.self.places.items rows c.len-last.result c.index.result.now made.1 count c.index.ensures made.0
+    last_read c.args.blocks.now c.args.number c.reach.new.self.next c.reach.new.self.numbers.items c.reach.new.self.places.items rows c.len-last.result c.index_mut-row.result.now made.1 count c.index_mut-row.ensures.value made.0
 
 pub returns : goal.returns
 returns c =
