@@ -10,7 +10,6 @@ pub mod ChangeLemmas
 pub mod StepLemmas
 pub mod PlaceLemmas
 pub mod SumLemmas
-pub mod CallerLemmas
 pub mod BuildLemmas
 pub mod GatherLemmas
 pub mod SmallLemmas

@@ -9,4 +9,3 @@ pub mod Runs
 pub mod Windows
 pub mod Examples
 pub mod Outcome
-pub mod Callers

@@ -14,8 +14,7 @@
 //! can be kept before the window's bytes are let go.
 //!
 //! glibc's mtrace says what a line reports; which line ends which block is own rule, stated in `specs/Live.antt` over pairs
-//! of lines. [`Live`] keeps callers as ranges of the log's bytes, and no bytes. [`Live::with_callers`] puts other ranges in their
-//! place, for who keeps each text of a caller once and not the log.
+//! of lines. [`Live`] keeps callers as ranges of the log's bytes, and no bytes.
 //!
 //! The contracts don't say that the log is complete, nor that its lines are in the order of the calls.
 #![tactic(auto)]

@@ -1,7 +1,5 @@
 //! The live blocks of a log.
-ghost use Rattle.std.specs.Prelude.{◌≡◌, ◌<◌, length, sum_by};
-ghost use Rattle.std.specs.List.{All};
-ghost use Rattle.leak_blocks.specs.Callers.{with_callers, with_callers_at};
+ghost use Rattle.std.specs.Prelude.{◌≡◌, sum_by};
 ghost use Rattle.leak_blocks.specs.Live.{Replay};
 ghost use Rattle.leak_blocks.specs.Span.{AreAddressed, AreDisjoint, AreSummed};
 
@@ -39,17 +37,6 @@ fn total(blocks: &[Block]) -> u64
     bytes
 }
 
-/// Gives each block, as its caller, the place of its number.
-fn replace_callers(blocks: &mut [Block], numbers: &[u32], places: &[(usize, usize)])
-    requires one_each { length numbers.now ≡ length blocks.old }
-    requires within { All (λ n. n < length places.now) numbers.now }
-    ensures { blocks.new ≡ with_callers places.now numbers.now blocks.old }
-{
-    for (i, block) in blocks.iter_mut().enumerate() {
-        block.caller = places[numbers[i] as usize];
-    }
-}
-
 impl Live {
     /// The live blocks and the counts of a replay.
     pub(crate) fn new(blocks: Vec<Block>, unknown: u64, displaced: u64) -> Live
@@ -65,18 +52,6 @@ impl Live {
             displaced,
             bytes,
         }
-    }
-
-    /// The same blocks, each with the place of its number as its caller: a range of whatever bytes the places are of. There
-    /// is a number for each block.
-    pub fn with_callers(self, numbers: &[u32], places: &[(usize, usize)]) -> Live
-        requires one_each { length numbers.now ≡ length self.blocks }
-        requires within { All (λ n. n < length places.now) numbers.now }
-        ensures { result ≡ with_callers_at places.now numbers.now self }
-    {
-        let mut blocks = self.blocks;
-        replace_callers(blocks.as_mut_slice(), numbers, places);
-        Live { blocks, ..self }
     }
 
     /// The live blocks by ascending start.

@@ -11,7 +11,8 @@ use Rattle.std.proofs.lemmas.Cmp.{nat_cmp_total, nat_list_cmp_total, tied_itself
 use Rattle.std.proofs.lemmas.Slice.Eq.{bytes_eq-Decides}
 use Rattle.leak_report.specs.declared.totals.CallerRow.{CallerRow}
 use Rattle.leak_report.specs.Laws.{AreSums, HasRow, SumsUp}
-use Rattle.leak_report.specs.Totals.{Leak, bytes_in, rank, text_at, with_text}
+use Rattle.leak_report.specs.declared.leaked.Leak.{Leak}
+use Rattle.leak_report.specs.Totals.{bytes_in, rank, text_at, with_text}
 use Rattle.leak_lemmas.proofs.Members.{Has, each_implied, each_mapped}
 use Rattle.leak_laws.specs.Reports.{told_caller}
 use Rattle.leak_laws.specs.Together.{DifferInText, rank_told}

@@ -13,7 +13,8 @@ use Rattle.leak_blocks.specs.Live.{live_of}
 use Rattle.leak_blocks.proofs.LineLemmas.{live_of_lines}
 use Rattle.leak_report.specs.declared.head.Head.{Head}
 use Rattle.leak_report.specs.Misfits.{misfits_in}
-use Rattle.leak_report.specs.Totals.{Leak, first_of_each, has_same_text, leaks_in, row_of, rows_of, text_at}
+use Rattle.leak_report.specs.declared.leaked.Leak.{Leak}
+use Rattle.leak_report.specs.Totals.{first_of_each, has_same_text, leaks_in, row_of, rows_of, text_at}
 use Rattle.leak_lemmas.proofs.Members.{each_filtered, each_from_All, each_implied, each_mapped, each_at}
 use Rattle.leak_report.proofs.Ranks.{each_ranked}
 use Rattle.leak_laws.specs.OneLine.{AreOfOneLine}

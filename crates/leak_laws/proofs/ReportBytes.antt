@@ -6,7 +6,8 @@ use Rattle.leak_report.specs.declared.totals.CallerRow.{CallerRow}
 use Rattle.leak_report.specs.Lines.{caller_line, leak_line}
 use Rattle.leak_report.specs.Misfits.{misfit_lines, misfit_sums, misfits_in}
 use Rattle.leak_report.specs.Report.{sums_of, text_of}
-use Rattle.leak_report.specs.Totals.{Leak, leaks_in, rows_of}
+use Rattle.leak_report.specs.declared.leaked.Leak.{Leak}
+use Rattle.leak_report.specs.Totals.{leaks_in, rows_of}
 use Rattle.leak_laws.specs.Reports.{misfit_rows_told, misfits_told, told_caller, told_leak, told_misfit, told_of}
 use Rattle.leak_laws.specs.Told.{caller_text, leak_text, misfit_text, number_lines, told_text}
 

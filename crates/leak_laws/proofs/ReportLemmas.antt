@@ -14,7 +14,8 @@ use Rattle.leak_report.specs.declared.head.Head.{Head}
 use Rattle.leak_report.specs.declared.totals.CallerRow.{CallerRow}
 use Rattle.leak_report.specs.Laws.{AreSums, HasRow}
 use Rattle.leak_report.specs.Misfits.{misfits_in}
-use Rattle.leak_report.specs.Totals.{Leak, bytes_in, bytes_of, heads_in, leaked_in, leaks_in, marked_in, rows_of, text_at, with_text}
+use Rattle.leak_report.specs.declared.leaked.Leak.{Leak}
+use Rattle.leak_report.specs.Totals.{bytes_in, bytes_of, heads_in, leaked_in, leaks_in, marked_in, rows_of, text_at, with_text}
 use Rattle.leak_lemmas.proofs.Members.{each_implied, each_mapped}
 use Rattle.leak_report.proofs.Sums.{rows_sum_up}
 use Rattle.leak_laws.proofs.CallerSums.{in_sum, in_text, same_rank}

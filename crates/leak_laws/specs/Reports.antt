@@ -10,7 +10,8 @@ use Rattle.leak_report.specs.declared.head.Head.{Head}
 use Rattle.leak_report.specs.declared.totals.CallerRow.{CallerRow}
 use Rattle.leak_report.specs.Misfits.{misfits_in}
 use Rattle.leak_report.specs.Report.{text_of}
-use Rattle.leak_report.specs.Totals.{Leak, bytes_of, heads_in, leaked_in, leaks_in, marked_in, rows_of, text_at}
+use Rattle.leak_report.specs.declared.leaked.Leak.{Leak}
+use Rattle.leak_report.specs.Totals.{bytes_of, heads_in, leaked_in, leaks_in, marked_in, rows_of, text_at}
 use Rattle.leak_search.specs.declared.found.Found.{Found}
 use Rattle.leak_search.specs.Signs.{fits_told}
 use Rattle.leak_search.specs.Search.{FindsOne, head_of_one, index_of}

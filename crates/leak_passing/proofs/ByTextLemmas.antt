@@ -1,4 +1,4 @@
--- A search of an input whose log was let go is that of the log.
+-- What was read of a log that was let go.
 use Rattle.std.proofs.Common.{◌≡◌, ◌∙◌, ℕ, List, sym, ap, subst}
 use Rattle.std.specs.Prelude.{Result, Ok, Err, IfOk}
 use Rattle.leak_mtrace.specs.declared.error.LogError.{LogError}
@@ -7,12 +7,10 @@ use Rattle.leak_mtrace.proofs.SameLogLemmas.{logs_are_one}
 use Rattle.leak_blocks.specs.declared.block.Block.{Block}
 use Rattle.leak_blocks.specs.declared.replaying.Replayed.{Replayed}
 use Rattle.leak_blocks.specs.declared.small.Span.{Span}
-use Rattle.leak_blocks.specs.Callers.{with_callers_at}
 use Rattle.leak_blocks.specs.Live.{Replay, live_of}
 use Rattle.leak_blocks.proofs.LineLemmas.{live_of_lines}
 use Rattle.leak_blocks.proofs.StepLemmas.{replayed as blocks_are}
 use Rattle.leak_roots.specs.declared.skip.Skip.{Skip}
-use Rattle.leak_report.specs.Elsewhere.{AreReportedAlike, HaveTextsAt, ReportsGoByTexts}
 use Rattle.leak_report.specs.Totals.{HaveCallersIn}
 use Rattle.leak_report.proofs.Callers.{have_callers}
 use Rattle.leak_search.specs.Inputs.{IsRead, IsReadAs, IsReadLog}
@@ -23,20 +21,6 @@ use Rattle.leak_passing.specs.ByTexts.{AreTextsOf, IsLogOf}
 use Rattle.leak_replaying.specs.Texts.{blocks_of}
 use Rattle.leak_passing.specs.Passed.{IsPassedByTexts}
 use Rattle.leak_passing.proofs.FoundLemmas.{lines_of}
-
--- ---- the report
-
--- the blocks with their new callers are reported as they were
-pub alike : ReportsGoByTexts → (log kept : List ℕ) (places : List (ℕ × ℕ)) (numbers : List ℕ) (live new : Replay) → HaveTextsAt log kept places numbers live.blocks
-    → new ≡ with_callers_at places numbers live → AreReportedAlike log kept live.blocks new.blocks
-alike law log kept places numbers live new texts is =
-    subst (λ (r : Replay). AreReportedAlike log kept live.blocks r.blocks) (sym is) (law log kept places numbers live.blocks texts)
-
--- the new callers are those of the kept places
-pub placed : (live new : Replay) (places kept_places : List (ℕ × ℕ)) (numbers kept_numbers : List ℕ) → new ≡ with_callers_at places numbers live
-    → places ≡ kept_places → numbers ≡ kept_numbers → new ≡ with_callers_at kept_places kept_numbers live
-placed live new places kept_places numbers kept_numbers is same_places same_numbers =
-    is ∙ ap (λ (ps : List (ℕ × ℕ)). with_callers_at ps numbers live) same_places ∙ ap (λ (ns : List ℕ). with_callers_at kept_places ns live) same_numbers
 
 -- ---- what was read of a log
 

@@ -6,7 +6,7 @@ ghost use Rattle.leak_report.specs.Totals.{leaked_in};
 ghost use Rattle.leak_replaying.specs.Texts.{AreKeptOf};
 
 use leak_blocks::Live;
-use leak_replaying::{KeptTexts, widened};
+use leak_replaying::KeptTexts;
 use leak_report::reports_go_by_texts;
 use leak_search::{FindError, Found, Searched, found_of};
 use std::alloc::Global;
@@ -34,14 +34,5 @@ pub(crate) fn found_by_texts(
 {
     // (a law, for the proof: a report goes by the texts of callers)
     reports_go_by_texts();
-    let KeptTexts {
-        bytes,
-        places,
-        numbers,
-    } = kept;
-    let numbers = widened(alloc, numbers)?;
-    let live = live.with_callers(numbers.as_slice(), places.as_slice());
-    drop(numbers); // the blocks have the places now
-    drop(places);
-    found_of(alloc, &live, searched, bytes.as_slice())
+    found_of(alloc, &live, searched, kept.callers())
 }

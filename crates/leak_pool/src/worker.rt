@@ -169,8 +169,7 @@ fn work<S: TargetSource, G: Gate>(
     requires worker { worker < round.now.model.workers }
     requires none { IsEmptyHand hand.old }
     requires room { round.now.model.stack ≤ vec_capacity hand.old.stack }
-    requires door { (door.old.worker ≡ worker)
-        × (door.old.step ≡ slice_index_or round.now.steps worker 0) }
+    requires door { (door.old.worker ≡ worker) × (door.old.step ≡ slice_index_or round.now.steps worker 0) }
     ensures same { (seat.new.table ≡ seat.old.table) × (seat.new.share ≡ seat.old.share) }
     ensures sound { IsSound seat.new }
     ensures done { IfOk result (λ _. HasWorked round.now worker seat.old seat.new hand.new) }
@@ -181,21 +180,19 @@ fn work<S: TargetSource, G: Gate>(
 {
     let search = round.search;
     targets_are_blocks(search.source);
-    let items = round.items;
-    let (start, end) = share_of(round, worker);
-    let mut next = start;
+    let (mut next, end) = share_of(round, worker);
     'scan: loop {
         if takes_stack(hand.stack.len(), next < end) {
             scan_top(alloc, round, seat, hand)?;
         } else if next >= end {
             return Ok(());
-        } else if let Some(blocks) = items.next_blocks(next, end, TOP) {
+        } else if let Some(blocks) = round.items.next_blocks(next, end, TOP) {
             door.pass_items(blocks.len());
             scan_several(alloc, round, seat, hand, blocks)?;
             next += blocks.len();
         } else {
             door.pass();
-            scan_one(round, seat, hand, items.at(next))?;
+            scan_one(round, seat, hand, round.items.at(next))?;
             next += 1;
         }
     }

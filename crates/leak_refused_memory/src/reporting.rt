@@ -6,7 +6,7 @@ ghost use Rattle.leak_report.specs.Totals.{HaveCallersIn};
 use crate::answer::Answer;
 use crate::samples::{FOUR_CALLERS, live_of};
 use leak_blocks::Block;
-use leak_report::{Head, Totals, text};
+use leak_report::{CallerTexts, Head, Totals, text};
 use std::alloc::Global;
 
 /// The report of four lost blocks, of which one has no chunk in its core.
@@ -77,7 +77,7 @@ pub(crate) fn report(alloc: Global) -> Option<Answer> {
         &set,
         &heads,
         Some(&fits),
-        FOUR_CALLERS.as_bytes(),
+        CallerTexts::OfLog(FOUR_CALLERS.as_bytes()),
     ) {
         Ok(text) => Some(Answer::of(text.as_slice() == REPORT.as_bytes())),
         Err(_) => Some(Answer::Wanting),

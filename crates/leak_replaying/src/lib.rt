@@ -19,4 +19,4 @@ mod texts;
 
 pub use finishing::LogByTexts;
 pub use replaying::replay_reading;
-pub use texts::{KeptTexts, Numbers, widened};
+pub use texts::{KeptTexts, Numbers};

@@ -1,8 +1,9 @@
 //! The texts of the callers of blocks, kept in place of the log that has them.
 
 ghost use Rattle.std.specs.Prelude.{◌≡◌, ◌<◌, ℕ, List, [], length, map, slice_index_or, All, IfOk};
-ghost use Rattle.leak_replaying.specs.Texts.{AreKeptOf, numbers_in};
+ghost use Rattle.leak_replaying.specs.Texts.{AreCallersOf, AreKeptOf, numbers_in};
 
+use leak_report::{CallerTexts, Places};
 use leak_texts::gather;
 use std::alloc::{AllocError, Global};
 
@@ -27,6 +28,20 @@ pub struct KeptTexts {
 }
 
 impl KeptTexts {
+    /// Where the texts of the callers stand.
+    pub fn callers(&self) -> CallerTexts<'_>
+        ensures { AreCallersOf self.now result }
+    {
+        let places = Places {
+            bytes: self.bytes.as_slice(),
+            ranges: self.places.as_slice(),
+        };
+        match &self.numbers {
+            Numbers::Few(numbers) => CallerTexts::Few(places, numbers.as_slice()),
+            Numbers::Many(numbers) => CallerTexts::Many(places, numbers.as_slice()),
+        }
+    }
+
     /// Those of no block.
     pub(crate) fn none(alloc: Global) -> KeptTexts
         ensures { (log : List ℕ) → AreKeptOf log [] result }
@@ -60,19 +75,4 @@ pub(crate) fn chosen_numbers(
         narrow.push(numbers[*k] as u8)?;
     }
     Ok(Numbers::Few(narrow))
-}
-
-/// The numbers, as a list of numbers of 32 bits.
-pub fn widened(alloc: Global, numbers: Numbers) -> Result<Vec<u32>, AllocError>
-    ensures { IfOk result (λ list. list.items ≡ numbers_in numbers) }
-{
-    let narrow = match numbers {
-        Numbers::Many(numbers) => return Ok(numbers),
-        Numbers::Few(narrow) => narrow,
-    };
-    let mut list = Vec::with_capacity(alloc, narrow.len())?;
-    for k in 0..narrow.len() {
-        list.push(u32::from(narrow[k]))?;
-    }
-    Ok(list)
 }

@@ -12,10 +12,10 @@ use Rattle.leak_lemmas.proofs.Members.{each_push as all_push}
 use Rattle.leak_blocks.specs.declared.block.Block.{Block}
 use Rattle.leak_report.specs.declared.totals.CallerRow.{CallerRow}
 use Rattle.leak_report.specs.Places.{place_of}
-use Rattle.leak_report.specs.Totals.{Leak, bytes_of, text_at}
+use Rattle.leak_report.specs.Totals.{Leak, bytes_in, text_at}
 use Rattle.leak_report.specs.Groups.{Key, HasRoom, with_leak, order_of_keys, row_with, found_in, AreEntries}
 use Rattle.leak_report.specs.declared.grouping.PlacedLeak.{PlacedLeak}
-use Rattle.leak_report.specs.Listing.{AreByPlace, AreByText, block_of, leak_of, order_after}
+use Rattle.leak_report.specs.Listing.{AreByPlace, AreByText, leak_of, order_after}
 use Rattle.leak_report.proofs.Joins.{AreEntries-push, row_at}
 use Rattle.leak_report.proofs.Listed.{sorted_fits, sorted_none}
 use Rattle.leak_report.proofs.Orders.{order_of_keys_total}
@@ -188,13 +188,13 @@ last_has_room prefix log leaks rows key (Some before) b d has same room =
     )
 
 -- there is one before the leaked block at i, if that has the last key
-pub last_is_ready : (prefix log : List ℕ) (set heads : List Bool) (blocks : List Block) (sorted : List PlacedLeak) (i : ℕ) (p : PlacedLeak) (rows : List CallerRow) (key : Key) (last : Option Key) (d : CallerRow)
-    → AreByPlace prefix log set blocks sorted → length heads ≡ length blocks → i < length sorted → length blocks < 2 ^ 64 → bytes_of blocks < 2 ^ 64
-    → AreAscending prefix log (map (leak_of heads blocks) (take i sorted)) rows last → order_after last key ≡ Equal
-    → (0 < length rows) × HasRoom (get_or rows (length rows - 1) d) (block_of blocks (get_or sorted i p))
-last_is_ready prefix log set heads blocks sorted i p rows key last d by one_each h few sum are same =
-    last_has_room prefix log (map (leak_of heads blocks) (take i sorted)) rows key last (block_of blocks (get_or sorted i p)) d are same
-    (λ text r is. sorted_fits prefix log set heads blocks sorted i p text r by one_each is h few sum)
+pub last_is_ready : (prefix log : List ℕ) (leaks : List Leak) (sorted : List PlacedLeak) (i : ℕ) (p : PlacedLeak) (rows : List CallerRow) (key : Key) (last : Option Key) (d : CallerRow)
+    → AreByPlace prefix log leaks sorted → i < length sorted → length leaks < 2 ^ 64 → bytes_in leaks < 2 ^ 64
+    → AreAscending prefix log (map (leak_of leaks) (take i sorted)) rows last → order_after last key ≡ Equal
+    → (0 < length rows) × HasRoom (get_or rows (length rows - 1) d) (leak_of leaks (get_or sorted i p)).block
+last_is_ready prefix log leaks sorted i p rows key last d by h few sum are same =
+    last_has_room prefix log (map (leak_of leaks) (take i sorted)) rows key last (leak_of leaks (get_or sorted i p)).block d are same
+    (λ text r is. sorted_fits prefix log leaks sorted i p text r by is h few sum)
 
 -- all of them
 pub ascending_all : (prefix log : List ℕ) (leaks : List Leak) (rows : List CallerRow) (last : Option Key) → AreAscending prefix log leaks rows last → AreByText prefix log leaks rows

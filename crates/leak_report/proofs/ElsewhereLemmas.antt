@@ -6,7 +6,7 @@ use Rattle.std.specs.Ordering.{nat_cmp, ordering_then, is_lt}
 use Rattle.std.proofs.lemmas.List.Elements.{All-head, All-tail}
 use Rattle.std.proofs.lemmas.List.Sums.{sum_by-cons}
 use Rattle.leak_blocks.specs.declared.block.Block.{Block}
-use Rattle.leak_blocks.specs.Callers.{with_callers}
+use Rattle.leak_report.specs.Sites.{with_callers}
 use Rattle.leak_report.specs.declared.head.Head.{Head}
 use Rattle.leak_report.specs.declared.totals.CallerRow.{CallerRow}
 use Rattle.leak_report.specs.Totals.{Leak, IsIn, marked_in, leaked_in, leaks_in, bytes_in, heads_in, text_at, with_text, has_same_text, first_of_each, row_of, rank, placed, ranked, rows_of}

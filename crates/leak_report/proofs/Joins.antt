@@ -1,8 +1,7 @@
 -- Rows, as blocks are added one by one.
-use Rattle.std.proofs.Common.{◌≡◌, ℕ, ◌+◌, ◌^◌, ◌<◌, ◌≤◌, Bool, true, false, not, cond, suc, List, [], ◌∷◌, ◌++◌, length, take, get_or, bytes_eq, Option, None, Some, IfSome, refl, sym, ap, subst, ◌∙◌, arith, zero-add}
-use Rattle.std.proofs.lemmas.List.Sums.{sum_by_push, sum_by-take-le}
-use Rattle.std.proofs.lemmas.List.{length-append, length-take-le}
-use Rattle.std.proofs.lemmas.List.Filters.{length-filter_both, sum_by-filter_both}
+use Rattle.std.proofs.Common.{◌≡◌, ℕ, ◌+◌, ◌^◌, ◌<◌, Bool, true, false, cond, List, [], ◌∷◌, ◌++◌, length, bytes_eq, None, Some, IfSome, refl, sym, ap, ◌∙◌, zero-add}
+use Rattle.std.proofs.lemmas.List.Sums.{sum_by_push}
+use Rattle.std.proofs.lemmas.List.{length-append}
 use Rattle.std.proofs.lemmas.Slice.Eq.{bytes_eq-Decides}
 use Rattle.std.proofs.lemmas.Map.Text.{is_eq-slice_cmp}
 use Rattle.std.proofs.lemmas.Cmp.{tied_itself, nat_cmp_total, ranked}
@@ -15,10 +14,10 @@ use Rattle.std.specs.declared.cmp.Ordering.TheVariants.{Less, Equal, Greater}
 use Rattle.std.specs.Ordering.{nat_cmp, ordering_then, is_eq}
 use Rattle.leak_blocks.specs.declared.block.Block.{Block}
 use Rattle.leak_report.specs.declared.totals.CallerRow.{CallerRow}
-use Rattle.leak_report.specs.Totals.{Leak, leaks_in, bytes_of, bytes_in, heads_in, text_at, with_text}
+use Rattle.leak_report.specs.Totals.{Leak, bytes_in, heads_in, text_at, with_text}
 use Rattle.leak_report.specs.Places.{place_of}
 use Rattle.leak_report.specs.Groups.{Key, order_of_keys, with_leak, HasRoom, HasLeak, row_from, row_with, found_in, AreEntries}
-use Rattle.leak_report.proofs.Leaks.{leaks_push, bytes_in-leaks, length-leaks, filter-push_yes, filter-push_no, heads_in-push, few_heads}
+use Rattle.leak_report.proofs.Leaks.{filter-push_yes, filter-push_no, heads_in-push, few_heads}
 
 row_from-push : (leaks : List Leak) (l : Leak) → row_from (leaks ++ l ∷ []) ≡ Some (with_leak (row_from leaks) l)
 row_from-push [] l =
@@ -126,20 +125,3 @@ pub row_from-fits : (leaks : List Leak) (b : Block) → length leaks + 1 < 2 ^ 6
     → IfSome (row_from leaks) (λ row. HasRoom row b)
 row_from-fits [] b h k = tt
 row_from-fits (l ∷ leaks) b h k = record { blocks = h; bytes = k; heads = few_heads (l ∷ leaks) }
-
--- a row of the blocks so far has room for the next
-pub row_with-fits : (log : List ℕ) (set heads : List Bool) (blocks : List Block) (i : ℕ) (d : Bool) (b : Block) (text : List ℕ) (r : Option CallerRow)
-    → r ≡ row_with log (leaks_in (take i set) (take i heads) (take i blocks)) text → i < length set → i < length heads → i < length blocks → get_or set i d ≡ false
-    → length blocks < 2 ^ 64 → bytes_of blocks < 2 ^ 64
-    → IfSome r (λ row. HasRoom row (get_or blocks i b))
-row_with-fits log set heads blocks i d b text r is p o q e fits sum =
-    let before : List Leak = leaks_in (take i set) (take i heads) (take i blocks) in
-    let leak : Leak = record { block = get_or blocks i b; head = get_or heads i d } in
-    let has : Leak → Bool = λ (x : Leak). bytes_eq (text_at log x.block.caller) text in
-    let more : leaks_in (take (suc i) set) (take (suc i) heads) (take (suc i) blocks) ≡ before ++ leak ∷ [] = leaks_push set heads blocks i d d b p o q e in
-    let long : length (before ++ leak ∷ []) ≤ length (take (suc i) blocks) = subst (λ (xs : List Leak). length xs ≤ length (take (suc i) blocks)) more (length-leaks (take (suc i) set) (take (suc i) heads) (take (suc i) blocks)) in
-    let wide : bytes_in (before ++ leak ∷ []) ≤ bytes_of (take (suc i) blocks) = subst (λ (xs : List Leak). bytes_in xs ≤ bytes_of (take (suc i) blocks)) more (bytes_in-leaks (take (suc i) set) (take (suc i) heads) (take (suc i) blocks)) in
-    subst (λ (o : Option CallerRow). IfSome o (λ row. HasRoom row (get_or blocks i b))) (sym is)
-    (row_from-fits (with_text log text before) (get_or blocks i b)
-    (omega (arith, length-filter_both has (λ x. not (has x)) (λ x. refl) before, length-append before (leak ∷ []), long, length-take-le (suc i) blocks (omega arith), fits))
-    (omega (arith, sum_by-filter_both has (λ x. not (has x)) (λ x. refl) (λ (x : Leak). x.block.size) before, sum_by_push (λ (x : Leak). x.block.size) before leak, wide, sum_by-take-le (λ (x : Block). x.size) blocks (suc i), sum)))

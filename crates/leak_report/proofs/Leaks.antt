@@ -1,7 +1,7 @@
 -- The leaked blocks of the first entries of a set.
 use Rattle.std.proofs.Common.{suc, zero, add-one, add-zero, ◌≡◌, ℕ, ◌+◌, ◌<◌, ◌≤◌, Bool, true, false, not, cond, List, [], ◌∷◌, ◌++◌, length, take, drop, get_or, filter, refl, ap, sym, ◌∙◌, arith}
 use Rattle.std.proofs.lemmas.List.Sums.{sum_by-cons}
-use Rattle.std.proofs.lemmas.List.{append-nil, length-append, length-take-le}
+use Rattle.std.proofs.lemmas.List.{append-nil, length-append}
 use Rattle.std.proofs.lemmas.List.Elements.{filter-append}
 use Rattle.std.proofs.lemmas.List.Filters.{length-filter_both}
 use Rattle.std.proofs.Math.Seq.{drop-cons}
@@ -89,44 +89,27 @@ heads_in-push leaks l = go l.head refl
 pub few_heads : (leaks : List Leak) → heads_in leaks ≤ length leaks
 few_heads leaks = omega (arith, length-filter_both (λ (x : Leak). x.head) (λ x. not x.head) (λ x. refl) leaks)
 
--- the number of heads, with the next block: a head, one that is held, or a marked one
-pub heads_more : (set heads : List Bool) (blocks : List Block) (i number : ℕ) (b : Block) → i < length set → i < length heads → i < length blocks
-    → number ≡ heads_in (leaks_in (take i set) (take i heads) (take i blocks)) → get_or set i false ≡ false → get_or heads i false ≡ true
-    → number + 1 ≡ heads_in (leaks_in (take (i + 1) set) (take (i + 1) heads) (take (i + 1) blocks))
-heads_more set heads blocks i number b p o q e out head =
-    let before : List Leak = leaks_in (take i set) (take i heads) (take i blocks) in
-    ap (λ (n : ℕ). n + 1) e
-    ∙ ap (λ (t : Bool). heads_in before + cond t 1 0) (sym head)
-    ∙ sym (heads_in-push before (record { block = get_or blocks i b; head = get_or heads i false }))
-    ∙ ap (λ (ls : List Leak). heads_in ls) (sym (leaks_push set heads blocks i false false b p o q out))
-    ∙ ap (λ (n : ℕ). heads_in (leaks_in (take n set) (take n heads) (take n blocks))) (sym (add-one i))
+-- they are the blocks that the set leaves out
+pub length-leaks_leaked : (set heads : List Bool) (blocks : List Block) → length heads ≡ length blocks → length (leaks_in set heads blocks) ≡ length (leaked_in set blocks)
+length-leaks_leaked [] heads blocks e = refl
+length-leaks_leaked (s ∷ set) [] [] e = refl
+length-leaks_leaked (s ∷ set) [] (b ∷ blocks) e = absurd (omega (arith, e))
+length-leaks_leaked (s ∷ set) (h ∷ heads) [] e = refl
+length-leaks_leaked (true ∷ set) (h ∷ heads) (b ∷ blocks) e = length-leaks_leaked set heads blocks (omega (arith, e))
+length-leaks_leaked (false ∷ set) (h ∷ heads) (b ∷ blocks) e = omega (arith, length-leaks_leaked set heads blocks (omega (arith, e)))
 
-pub heads_held : (set heads : List Bool) (blocks : List Block) (i number : ℕ) (b : Block) → i < length set → i < length heads → i < length blocks
-    → number ≡ heads_in (leaks_in (take i set) (take i heads) (take i blocks)) → get_or set i false ≡ false → get_or heads i false ≡ false
-    → number ≡ heads_in (leaks_in (take (i + 1) set) (take (i + 1) heads) (take (i + 1) blocks))
-heads_held set heads blocks i number b p o q e out held =
-    let before : List Leak = leaks_in (take i set) (take i heads) (take i blocks) in
-    e ∙ sym (add-zero (heads_in before))
-    ∙ ap (λ (t : Bool). heads_in before + cond t 1 0) (sym held)
-    ∙ sym (heads_in-push before (record { block = get_or blocks i b; head = get_or heads i false }))
-    ∙ ap (λ (ls : List Leak). heads_in ls) (sym (leaks_push set heads blocks i false false b p o q out))
-    ∙ ap (λ (n : ℕ). heads_in (leaks_in (take n set) (take n heads) (take n blocks))) (sym (add-one i))
-
-pub heads_marked : (set heads : List Bool) (blocks : List Block) (i number : ℕ) → i < length set → i < length heads → i < length blocks
-    → number ≡ heads_in (leaks_in (take i set) (take i heads) (take i blocks)) → get_or set i false ≡ true
-    → number ≡ heads_in (leaks_in (take (i + 1) set) (take (i + 1) heads) (take (i + 1) blocks))
-heads_marked set heads blocks i number p o q e marked =
-    e ∙ ap (λ (ls : List Leak). heads_in ls) (sym (leaks_stay set heads blocks i false p o q marked))
-    ∙ ap (λ (n : ℕ). heads_in (leaks_in (take n set) (take n heads) (take n blocks))) (sym (add-one i))
-
--- the heads so far are no more than the blocks so far
-pub heads_so_far : (set heads : List Bool) (blocks : List Block) (i : ℕ) → i ≤ length blocks → heads_in (leaks_in (take i set) (take i heads) (take i blocks)) ≤ i
-heads_so_far set heads blocks i h =
+pub bytes-leaks_leaked : (set heads : List Bool) (blocks : List Block) → length heads ≡ length blocks → bytes_in (leaks_in set heads blocks) ≡ bytes_of (leaked_in set blocks)
+bytes-leaks_leaked [] heads blocks e = refl
+bytes-leaks_leaked (s ∷ set) [] [] e = refl
+bytes-leaks_leaked (s ∷ set) [] (b ∷ blocks) e = absurd (omega (arith, e))
+bytes-leaks_leaked (s ∷ set) (h ∷ heads) [] e = refl
+bytes-leaks_leaked (true ∷ set) (h ∷ heads) (b ∷ blocks) e = bytes-leaks_leaked set heads blocks (omega (arith, e))
+bytes-leaks_leaked (false ∷ set) (h ∷ heads) (b ∷ blocks) e =
     omega (
       arith,
-      few_heads (leaks_in (take i set) (take i heads) (take i blocks)),
-      length-leaks (take i set) (take i heads) (take i blocks),
-      length-take-le i blocks h,
+      bytes-leaks_leaked set heads blocks (omega (arith, e)),
+      sum_by-cons (λ (b : Block). b.size) b (leaked_in set blocks),
+      sum_by-cons (λ (l : Leak). l.block.size) (record { block = b; head = h }) (leaks_in set heads blocks),
     )
 
 -- marked and leaked blocks together are all
@@ -156,14 +139,6 @@ marked_next set blocks i d b p q e = rw (drop-cons set i d, drop-cons blocks i b
 pub marked_later : (set : List Bool) (blocks : List Block) (i : ℕ) (d : Bool) (b : Block) → i < length set → i < length blocks → get_or set i d ≡ false
     → marked_in (drop i set) (drop i blocks) ≡ marked_in (drop (i + 1) set) (drop (i + 1) blocks)
 marked_later set blocks i d b p q e = rw (drop-cons set i d, drop-cons blocks i b, e, add-one) refl
-
-pub leaked_later : (set : List Bool) (blocks : List Block) (i : ℕ) (d : Bool) (b : Block) → i < length set → i < length blocks → get_or set i d ≡ true
-    → leaked_in (drop i set) (drop i blocks) ≡ leaked_in (drop (i + 1) set) (drop (i + 1) blocks)
-leaked_later set blocks i d b p q e = rw (drop-cons set i d, drop-cons blocks i b, e, add-one) refl
-
-pub leaked_next : (set : List Bool) (blocks : List Block) (i : ℕ) (d : Bool) (b : Block) → i < length set → i < length blocks → get_or set i d ≡ false
-    → leaked_in (drop i set) (drop i blocks) ≡ get_or blocks i b ∷ leaked_in (drop (i + 1) set) (drop (i + 1) blocks)
-leaked_next set blocks i d b p q e = rw (drop-cons set i d, drop-cons blocks i b, e, add-one) refl
 
 pub bytes_of-marked : (set : List Bool) (blocks : List Block) → bytes_of (marked_in set blocks) ≤ bytes_of blocks
 bytes_of-marked [] blocks = omega arith

@@ -10,6 +10,7 @@ pub mod TextLemmas
 pub mod Sums
 pub mod Callers
 pub mod MisfitLemmas
+pub mod SiteLemmas
 pub mod PlaceLemmas
 pub mod MeetingLemmas
 pub mod SortLemmas

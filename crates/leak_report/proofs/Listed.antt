@@ -1,5 +1,5 @@
 -- Leaked blocks by the places of their callers' texts.
-use Rattle.std.proofs.Common.{◌≡◌, ℕ, zero, suc, ◌+◌, ◌^◌, ◌<◌, ◌≤◌, Bool, true, false, not, ◌&&◌, cond, List, [], ◌∷◌, ◌++◌, length, take, get_or, map, filter, bytes_eq, Option, None, IfSome, refl, sym, ap, subst, ◌∙◌, arith, add-one}
+use Rattle.std.proofs.Common.{◌≡◌, ℕ, zero, suc, ◌+◌, ◌^◌, ◌<◌, ◌≤◌, Bool, true, false, not, ◌&&◌, cond, List, [], ◌∷◌, ◌++◌, length, take, get_or, map, filter, bytes_eq, Option, None, IfSome, refl, sym, ap, subst, ◌∙◌, arith}
 use Rattle.std.specs.List.{All, AllByRecursion, sum_by}
 use Rattle.std.specs.Prelude.{nat_eq}
 use Rattle.std.specs.Ordering.{nat_cmp, is_lt}
@@ -10,64 +10,51 @@ use Rattle.std.proofs.lemmas.List.Filters.{length-filter_both, sum_by-filter_bot
 use Rattle.std.proofs.lemmas.List.Sorted.{All-permutation, sum_by-IsPermutation, length_permutation}
 use Rattle.std.proofs.lemmas.Slice.Eq.{bytes_eq-Decides}
 use Rattle.leak_lemmas.proofs.Members.{each_push as all_push, All-from_each as all_at}
-use Rattle.leak_blocks.specs.declared.block.Block.{Block}
 use Rattle.leak_report.specs.declared.totals.CallerRow.{CallerRow}
 use Rattle.leak_report.specs.declared.grouping.PlacedLeak.{PlacedLeak}
 use Rattle.leak_report.specs.Places.{place_of}
-use Rattle.leak_report.specs.Totals.{Leak, leaks_in, bytes_of, bytes_in, text_at, with_text}
+use Rattle.leak_report.specs.Totals.{Leak, bytes_in, text_at, with_text}
 use Rattle.leak_report.specs.Groups.{Key, HasRoom, AreEntries, row_from, row_with}
-use Rattle.leak_report.specs.Listing.{IsPlaced, ArePlaced, AreByPlace, block_of, leak_of}
-use Rattle.leak_report.proofs.Leaks.{leaks_push, leaks_stay, bytes_in-leaks, length-leaks}
+use Rattle.leak_report.specs.Listing.{IsPlaced, ArePlaced, AreByPlace, leak_of}
 use Rattle.leak_report.proofs.Joins.{row_from-fits}
 
 -- ---- listing
 
--- those among the first blocks
-pub record AreFirst (prefix log : List ℕ) (set : List Bool) (blocks : List Block) (i : ℕ) (placed : List PlacedLeak) : Type 0 where
-  pub leaks : (heads : List Bool) → length heads ≡ length blocks → map (leak_of heads blocks) placed ≡ leaks_in (take i set) (take i heads) (take i blocks)
-  pub each : AllByRecursion (IsPlaced prefix log blocks) placed
+-- those among the first leaked blocks
+pub record AreFirst (prefix log : List ℕ) (leaks : List Leak) (i : ℕ) (placed : List PlacedLeak) : Type 0 where
+  pub are : map (leak_of leaks) placed ≡ take i leaks
+  pub each : AllByRecursion (IsPlaced prefix log leaks) placed
 
-pub first_none : (prefix log : List ℕ) (set : List Bool) (blocks : List Block) → AreFirst prefix log set blocks 0 []
-first_none prefix log set blocks = record { leaks = λ heads e. refl; each = tt }
+pub first_none : (prefix log : List ℕ) (leaks : List Leak) → AreFirst prefix log leaks 0 []
+first_none prefix log leaks = record { are = refl; each = tt }
 
-pub first_more : (prefix log : List ℕ) (set : List Bool) (blocks : List Block) (i place : ℕ) (placed : List PlacedLeak) → AreFirst prefix log set blocks i placed
-    → length set ≡ length blocks → i < length blocks → get_or set i false ≡ false
-    → place ≡ place_of prefix (text_at log (block_of blocks (record { place = place; number = i })).caller)
-    → AreFirst prefix log set blocks (i + 1) (placed ++ record { place = place; number = i } ∷ [])
-first_more prefix log set blocks i place placed first same h out is =
+pub first_more : (prefix log : List ℕ) (leaks : List Leak) (i place : ℕ) (placed : List PlacedLeak) → AreFirst prefix log leaks i placed → i < length leaks
+    → place ≡ place_of prefix (text_at log (leak_of leaks (record { place = place; number = i })).block.caller)
+    → AreFirst prefix log leaks (i + 1) (placed ++ record { place = place; number = i } ∷ [])
+first_more prefix log leaks i place placed first h is =
     let p : PlacedLeak = record { place = place; number = i } in
     record {
-      leaks = λ heads e.
-          map_push (leak_of heads blocks) placed p
-          ∙ ap (λ (ls : List Leak). ls ++ leak_of heads blocks p ∷ []) (first.leaks heads e)
-          ∙ sym (leaks_push set heads blocks i false false (record { start = 0; size = 0; line = 0; caller = (0, 0) }) (omega arith) (omega arith) h out)
-          ∙ ap (λ (n : ℕ). leaks_in (take n set) (take n heads) (take n blocks)) (sym (add-one i));
-      each = all_push (IsPlaced prefix log blocks) placed p first.each (record { inside = h; place = is });
+      are = map_push (leak_of leaks) placed p
+          ∙ ap (λ (ls : List Leak). ls ++ leak_of leaks p ∷ []) first.are
+          ∙ sym (take_more leaks i (leak_of leaks p) h ∙ ap (λ (l : Leak). take i leaks ++ l ∷ []) (get_same leaks i _ _ h));
+      each = all_push (IsPlaced prefix log leaks) placed p first.each (record { inside = h; place = is });
     }
+  where
+    get_same : {X : Type 0} (xs : List X) (i : ℕ) (d e : X) → i < length xs → get_or xs i d ≡ get_or xs i e
+    get_same [] i d e h = absurd (omega (arith, h))
+    get_same (x ∷ xs) zero d e h = refl
+    get_same (x ∷ xs) (suc i) d e h = get_same xs i d e (omega (arith, h))
 
-pub first_same : (prefix log : List ℕ) (set : List Bool) (blocks : List Block) (i : ℕ) (placed : List PlacedLeak) → AreFirst prefix log set blocks i placed
-    → length set ≡ length blocks → i < length blocks → get_or set i false ≡ true → AreFirst prefix log set blocks (i + 1) placed
-first_same prefix log set blocks i placed first same h out = record {
-  leaks = λ heads e.
-      first.leaks heads e
-      ∙ sym (leaks_stay set heads blocks i false (omega arith) (omega arith) h out)
-      ∙ ap (λ (n : ℕ). leaks_in (take n set) (take n heads) (take n blocks)) (sym (add-one i));
-  each = first.each;
-}
-
-pub first_all : (prefix log : List ℕ) (set : List Bool) (blocks : List Block) (i : ℕ) (placed : List PlacedLeak) → AreFirst prefix log set blocks i placed
-    → length set ≡ length blocks → length blocks ≤ i → ArePlaced prefix log set blocks placed
-first_all prefix log set blocks i placed first same h = record {
-  leaks = λ heads e. first.leaks heads e ∙ rw (take_all i set (omega arith), take_all i heads (omega arith), take_all i blocks h) refl;
-  each = first.each;
-}
+pub first_all : (prefix log : List ℕ) (leaks : List Leak) (i : ℕ) (placed : List PlacedLeak) → AreFirst prefix log leaks i placed → length leaks ≤ i
+    → ArePlaced prefix log leaks placed
+first_all prefix log leaks i placed first h = record { are = first.are ∙ take_all i leaks h; each = first.each }
 
 -- ---- sorting
 
-pub each_sorted : (prefix log : List ℕ) (set : List Bool) (blocks : List Block) (sorted : List PlacedLeak) → AreByPlace prefix log set blocks sorted
-    → All (IsPlaced prefix log blocks) sorted
-each_sorted prefix log set blocks sorted by =
-    All-permutation (IsPlaced prefix log blocks) by.listed sorted by.permutation (all_at (IsPlaced prefix log blocks) by.listed by.placed.each)
+pub each_sorted : (prefix log : List ℕ) (leaks : List Leak) (sorted : List PlacedLeak) → AreByPlace prefix log leaks sorted
+    → All (IsPlaced prefix log leaks) sorted
+each_sorted prefix log leaks sorted by =
+    All-permutation (IsPlaced prefix log leaks) by.listed sorted by.permutation (all_at (IsPlaced prefix log leaks) by.listed by.placed.each)
 
 -- what is picked by a test stays what it was if only others are left out first
 narrowed : {X : Type 0} (q r : X → Bool) (xs : List X) → All (λ x. q x ≡ true → r x ≡ true) xs → filter q xs ≡ filter q (filter r xs)
@@ -93,29 +80,29 @@ same_place : (m n : ℕ) → m ≡ n → (not (is_lt (nat_cmp m n)) && not (is_l
 same_place m n e = rw (e, tied_itself nat_cmp_total n) refl
 
 -- those of one text are those that they were, in the same order
-text_stays : (prefix log : List ℕ) (set heads : List Bool) (blocks : List Block) (sorted : List PlacedLeak) (text : List ℕ) → AreByPlace prefix log set blocks sorted
-    → length heads ≡ length blocks → with_text log text (map (leak_of heads blocks) sorted) ≡ with_text log text (leaks_in set heads blocks)
-text_stays prefix log set heads blocks sorted text by e =
-    let f : PlacedLeak → Leak = leak_of heads blocks in
+text_stays : (prefix log : List ℕ) (leaks : List Leak) (sorted : List PlacedLeak) (text : List ℕ) → AreByPlace prefix log leaks sorted
+    → with_text log text (map (leak_of leaks) sorted) ≡ with_text log text leaks
+text_stays prefix log leaks sorted text by =
+    let f : PlacedLeak → Leak = leak_of leaks in
     let q : Leak → Bool = λ l. bytes_eq (text_at log l.block.caller) text in
-    let g : PlacedLeak → Bool = λ p. bytes_eq (text_at log (block_of blocks p).caller) text in
+    let g : PlacedLeak → Bool = λ p. bytes_eq (text_at log (leak_of leaks p).block.caller) text in
     let at : PlacedLeak = record { place = place_of prefix text; number = 0 } in
     let t : PlacedLeak → Bool = λ p. not (is_lt (nat_cmp at.place p.place)) && not (is_lt (nat_cmp p.place at.place)) in
-    let ties : (xs : List PlacedLeak) → All (IsPlaced prefix log blocks) xs → All (λ p. g p ≡ true → t p ≡ true) xs =
+    let ties : (xs : List PlacedLeak) → All (IsPlaced prefix log leaks) xs → All (λ p. g p ≡ true → t p ≡ true) xs =
     λ xs all k d h is. same_place at.place (get_or xs k d).place
-    (ap (place_of prefix) (sym ((bytes_eq-Decides (text_at log (block_of blocks (get_or xs k d)).caller) text).0 is)) ∙ sym (all k d h).place) in
-    let each : All (IsPlaced prefix log blocks) by.listed = all_at (IsPlaced prefix log blocks) by.listed by.placed.each in
+    (ap (place_of prefix) (sym ((bytes_eq-Decides (text_at log (leak_of leaks (get_or xs k d)).block.caller) text).0 is)) ∙ sym (all k d h).place) in
+    let each : All (IsPlaced prefix log leaks) by.listed = all_at (IsPlaced prefix log leaks) by.listed by.placed.each in
     filter_map f q sorted
-    ∙ ap (map f) (narrowed g t sorted (ties sorted (each_sorted prefix log set blocks sorted by)))
+    ∙ ap (map f) (narrowed g t sorted (ties sorted (each_sorted prefix log leaks sorted by)))
     ∙ ap (λ xs. map f (filter g xs)) (by.stable at)
     ∙ ap (map f) (sym (narrowed g t by.listed (ties by.listed each)))
     ∙ sym (filter_map f q by.listed)
-    ∙ ap (filter q) (by.placed.leaks heads e)
+    ∙ ap (filter q) by.placed.are
 
-pub entries_sorted : (prefix log : List ℕ) (set heads : List Bool) (blocks : List Block) (sorted : List PlacedLeak) (entries : List (Key × CallerRow)) → AreByPlace prefix log set blocks sorted
-    → length heads ≡ length blocks → AreEntries prefix log (map (leak_of heads blocks) sorted) entries → AreEntries prefix log (leaks_in set heads blocks) entries
-entries_sorted prefix log set heads blocks sorted entries by e are = λ k.
-    are k ∙ ap (λ (ls : List Leak). cond (nat_eq k.0 (place_of prefix k.1.now)) (row_from ls) None) (text_stays prefix log set heads blocks sorted k.1.now by e)
+pub entries_sorted : (prefix log : List ℕ) (leaks : List Leak) (sorted : List PlacedLeak) (entries : List (Key × CallerRow)) → AreByPlace prefix log leaks sorted
+    → AreEntries prefix log (map (leak_of leaks) sorted) entries → AreEntries prefix log leaks entries
+entries_sorted prefix log leaks sorted entries by are = λ k.
+    are k ∙ ap (λ (ls : List Leak). cond (nat_eq k.0 (place_of prefix k.1.now)) (row_from ls) None) (text_stays prefix log leaks sorted k.1.now by)
 
 -- ---- room
 
@@ -138,28 +125,25 @@ sum_of_map : {X Y : Type 0} (f : X → Y) (g : Y → ℕ) (xs : List X) → sum_
 sum_of_map f g [] = refl
 sum_of_map f g (x ∷ xs) = sum_by-cons g (f x) (map f xs) ∙ ap (λ (n : ℕ). g (f x) + n) (sum_of_map f g xs) ∙ sym (sum_by-cons (λ y. g (f y)) x xs)
 
-pub sorted_fits : (prefix log : List ℕ) (set heads : List Bool) (blocks : List Block) (sorted : List PlacedLeak) (i : ℕ) (d : PlacedLeak) (text : List ℕ) (r : Option CallerRow)
-    → AreByPlace prefix log set blocks sorted → length heads ≡ length blocks → r ≡ row_with log (map (leak_of heads blocks) (take i sorted)) text → i < length sorted
-    → length blocks < 2 ^ 64 → bytes_of blocks < 2 ^ 64 → IfSome r (λ row. HasRoom row (block_of blocks (get_or sorted i d)))
-sorted_fits prefix log set heads blocks sorted i d text r by e is h fits sum =
-    let f : PlacedLeak → Leak = leak_of heads blocks in
+pub sorted_fits : (prefix log : List ℕ) (leaks : List Leak) (sorted : List PlacedLeak) (i : ℕ) (d : PlacedLeak) (text : List ℕ) (r : Option CallerRow)
+    → AreByPlace prefix log leaks sorted → r ≡ row_with log (map (leak_of leaks) (take i sorted)) text → i < length sorted
+    → length leaks < 2 ^ 64 → bytes_in leaks < 2 ^ 64 → IfSome r (λ row. HasRoom row (leak_of leaks (get_or sorted i d)).block)
+sorted_fits prefix log leaks sorted i d text r by is h fits sum =
+    let f : PlacedLeak → Leak = leak_of leaks in
     let size : Leak → ℕ = λ (x : Leak). x.block.size in
-    let all : List Leak = leaks_in set heads blocks in
-    let many : length (map f sorted) ≤ length blocks = omega (
+    let many : length (map f sorted) ≡ length leaks = omega (
       arith,
       length-map sorted f,
       length_permutation by.listed sorted by.permutation,
       length-map by.listed f,
-      ap (λ (xs : List Leak). length xs) (by.placed.leaks heads e),
-      length-leaks set heads blocks,
+      ap (λ (xs : List Leak). length xs) by.placed.are,
     ) in
-    let wide : bytes_in (map f sorted) ≤ bytes_of blocks = omega (
+    let wide : bytes_in (map f sorted) ≡ bytes_in leaks = omega (
       arith,
       sum_of_map f size sorted,
       sum_by-IsPermutation (λ (p : PlacedLeak). size (f p)) by.listed sorted by.permutation,
       sum_of_map f size by.listed,
-      ap bytes_in (by.placed.leaks heads e),
-      bytes_in-leaks set heads blocks,
+      ap bytes_in by.placed.are,
     ) in
     let at : get_or (map f sorted) i (f d) ≡ f (get_or sorted i d) = map_at f sorted i d h in
     subst (λ (l : Leak). IfSome r (λ row. HasRoom row l.block)) at
@@ -171,9 +155,9 @@ sorted_fits prefix log set heads blocks sorted i d text r by e is h fits sum =
     map_at f (x ∷ xs) (suc i) d h = map_at f xs i d (omega arith)
 
 -- the first, and one more
-pub sorted_more : (heads : List Bool) (blocks : List Block) (sorted : List PlacedLeak) (i : ℕ) (d : PlacedLeak) → i < length sorted
-    → map (leak_of heads blocks) (take (i + 1) sorted) ≡ map (leak_of heads blocks) (take i sorted) ++ leak_of heads blocks (get_or sorted i d) ∷ []
-sorted_more heads blocks sorted i d h = ap (map (leak_of heads blocks)) (take_more sorted i d h) ∙ map_push (leak_of heads blocks) (take i sorted) (get_or sorted i d)
+pub sorted_more : (leaks : List Leak) (sorted : List PlacedLeak) (i : ℕ) (d : PlacedLeak) → i < length sorted
+    → map (leak_of leaks) (take (i + 1) sorted) ≡ map (leak_of leaks) (take i sorted) ++ leak_of leaks (get_or sorted i d) ∷ []
+sorted_more leaks sorted i d h = ap (map (leak_of leaks)) (take_more sorted i d h) ∙ map_push (leak_of leaks) (take i sorted) (get_or sorted i d)
 
 cond_same : {X : Type 0} (t : Bool) (x : X) → cond t x x ≡ x
 cond_same true x = refl
@@ -182,7 +166,7 @@ cond_same false x = refl
 pub sorted_none : (prefix log : List ℕ) (entries : List (Key × CallerRow)) → entries ≡ [] → AreEntries prefix log [] entries
 sorted_none prefix log entries is = λ k. rw is (sym (cond_same {X = Option CallerRow} (nat_eq k.0 (place_of prefix k.1.now)) None))
 
-pub inside_sorted : (prefix log : List ℕ) (set : List Bool) (blocks : List Block) (listed sorted : List PlacedLeak) (i : ℕ) (d : PlacedLeak) → AreByPlace prefix log set blocks listed
-    → sorted ≡ listed → i < length sorted → IsPlaced prefix log blocks (get_or sorted i d)
-inside_sorted prefix log set blocks listed sorted i d by same h =
-    subst (λ (xs : List PlacedLeak). All (IsPlaced prefix log blocks) xs) (sym same) (each_sorted prefix log set blocks listed by) i d h
+pub inside_sorted : (prefix log : List ℕ) (leaks : List Leak) (listed sorted : List PlacedLeak) (i : ℕ) (d : PlacedLeak) → AreByPlace prefix log leaks listed
+    → sorted ≡ listed → i < length sorted → IsPlaced prefix log leaks (get_or sorted i d)
+inside_sorted prefix log leaks listed sorted i d by same h =
+    subst (λ (xs : List PlacedLeak). All (IsPlaced prefix log leaks) xs) (sym same) (each_sorted prefix log leaks listed by) i d h

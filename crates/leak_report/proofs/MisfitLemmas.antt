@@ -1,11 +1,12 @@
 -- The misfits among the first blocks, and how many there are.
-use Rattle.std.proofs.Common.{suc, zero, add-one, zero-add, ◌≡◌, ℕ, ◌+◌, ◌<◌, Bool, true, false, not, cond, List, [], ◌∷◌, ◌++◌, length, take, get_or, flat_map, refl, ap, sym, ◌∙◌, append_assoc, arith}
+use Rattle.std.proofs.Common.{suc, zero, add-one, zero-add, ◌≡◌, ℕ, ◌+◌, ◌<◌, Bool, true, false, not, cond, List, [], ◌∷◌, ◌++◌, length, take, get_or, flat_map, Option, None, Some, IfSome, option_copied, refl, ap, sym, ◌∙◌, append_assoc, arith}
+use denote.Ref.{Bor}
 use Rattle.std.specs.List.{count_by}
 use Rattle.std.proofs.lemmas.List.{append-nil}
 use Rattle.std.proofs.lemmas.List.Concat.{flat_map-append}
 use Rattle.std.proofs.lemmas.List.Sums.{sum_by-cons}
 use Rattle.leak_blocks.specs.declared.block.Block.{Block}
-use Rattle.leak_report.specs.Misfits.{misfits_in}
+use Rattle.leak_report.specs.Misfits.{misfits_in, misfit_sums, number_line}
 
 -- one more block that doesn't fit
 misfits_push : (fits : List Bool) (blocks : List Block) (i : ℕ) (d : Bool) (b : Block) → i < length fits → i < length blocks → get_or fits i d ≡ false
@@ -57,3 +58,9 @@ length-misfits (false ∷ fits) (b ∷ blocks) same =
     let rest = length-misfits fits blocks (omega (arith, same)) in
     let one = sum_by-cons (λ (x : Bool). cond (not x) 1 0) false fits in
     rw (one, ← rest) (omega arith)
+
+-- their number is told by the entries alone
+pub misfit_sums-same : (fits : Option (Bor (List Bool))) (bs cs : List Block) → length bs ≡ length cs → IfSome fits (λ f. length f.now ≡ length bs)
+    → misfit_sums (option_copied fits) bs ≡ misfit_sums (option_copied fits) cs
+misfit_sums-same None bs cs same each = refl
+misfit_sums-same (Some f) bs cs same each = ap number_line (length-misfits f.now bs each ∙ sym (length-misfits f.now cs (each ∙ same)))

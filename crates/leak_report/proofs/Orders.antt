@@ -15,7 +15,7 @@ use Rattle.std.proofs.lemmas.List.Sorted.{ranks_by, ties_stay_sorted}
 use Rattle.std.proofs.lemmas.Map.Keys.{IsDistinct-from_sorted, IsDistinct-IsPermutation, apart_from_distinct, Less-from_sorted, sorted_from_all_adjacent}
 use Rattle.leak_blocks.specs.declared.block.Block.{Block}
 use Rattle.leak_report.specs.declared.totals.CallerRow.{CallerRow}
-use Rattle.leak_report.specs.Totals.{Leak, IsIn, HaveCallersIn, bytes_in, heads_in, text_at, with_text, has_same_text, first_of_each, row_of, rank, ranked, rows_of, leaks_in}
+use Rattle.leak_report.specs.Totals.{Leak, AreLeaksIn, IsIn, bytes_in, heads_in, text_at, with_text, has_same_text, first_of_each, row_of, rank, ranked, rows_of, leaks_in}
 use Rattle.leak_report.specs.Places.{place_of}
 use Rattle.leak_report.specs.Groups.{Key, row_from, row_with, order_of_keys, found_in, AreEntries}
 use Rattle.leak_report.specs.Listing.{AreByText}
@@ -197,9 +197,9 @@ each_leak P (s ∷ set) (h ∷ heads) [] all = tt
 each_leak P (true ∷ set) (h ∷ heads) (b ∷ blocks) all = each_leak P set heads blocks all.1
 each_leak P (false ∷ set) (h ∷ heads) (b ∷ blocks) all = (all.0, each_leak P set heads blocks all.1)
 
-pub rows_of-in : (log : List ℕ) (set heads : List Bool) (blocks : List Block) → HaveCallersIn log blocks → AllByRecursion (λ r. IsIn log r.caller) (rows_of log (leaks_in set heads blocks))
+pub rows_of-in : (log : List ℕ) (leaks : List Leak) → AreLeaksIn log leaks → AllByRecursion (λ r. IsIn log r.caller) (rows_of log leaks)
 unfolding rows_of
-rows_of-in log set heads blocks all =
-    each_ranked (λ r. IsIn log r.caller) log (map (row_of log (leaks_in set heads blocks)) (first_of_each log (leaks_in set heads blocks)))
-    (each_mapped (row_of log (leaks_in set heads blocks)) (λ r. IsIn log r.caller) (first_of_each log (leaks_in set heads blocks))
-    (first_of_each-in (λ l. IsIn log l.block.caller) log (leaks_in set heads blocks) (each_leak (λ b. IsIn log b.caller) set heads blocks all)))
+rows_of-in log leaks all =
+    each_ranked (λ r. IsIn log r.caller) log (map (row_of log leaks) (first_of_each log leaks))
+    (each_mapped (row_of log leaks) (λ r. IsIn log r.caller) (first_of_each log leaks)
+    (first_of_each-in (λ l. IsIn log l.block.caller) log leaks all))

@@ -2,7 +2,7 @@
 -- the same.
 use Rattle.std.specs.Prelude.{◌≡◌, ℕ, ◌<◌, Bool, List, length, map, slice_index_or, Option, All}
 use Rattle.leak_blocks.specs.declared.block.Block.{Block}
-use Rattle.leak_blocks.specs.Callers.{with_callers}
+use Rattle.leak_report.specs.Sites.{with_callers}
 use Rattle.leak_report.specs.declared.head.Head.{Head}
 use Rattle.leak_report.specs.Totals.{IsIn, HaveCallersIn, text_at}
 use Rattle.leak_report.specs.Numbered.{texts_of}

@@ -14,4 +14,5 @@ pub mod Numbered
 pub mod Meeting
 pub mod TextExamples
 pub mod Elsewhere
+pub mod Sites
 pub mod PlaceExamples

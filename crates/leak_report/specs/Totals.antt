@@ -6,6 +6,7 @@ use Rattle.std.specs.declared.cmp.Ordering.{Ordering}
 use Rattle.std.specs.Ordering.{nat_cmp, ordering_then, is_lt}
 use Rattle.leak_blocks.specs.declared.block.Block.{Block}
 use Rattle.leak_report.specs.declared.totals.CallerRow.{CallerRow}
+pub use Rattle.leak_report.specs.declared.leaked.Leak.{Leak}
 
 -- the blocks that are in the set, which has an entry for each block
 abbrev pub marked_in : List Bool → List Block → List Block
@@ -23,11 +24,6 @@ leaked_in (false ∷ set) (b ∷ blocks) = b ∷ leaked_in set blocks
 
 abbrev pub bytes_of : List Block → ℕ
 bytes_of blocks = sum_by (λ b. b.size) blocks
-
--- a leaked block, and whether it is a head
-pub record Leak : Type 0 where
-  pub block : Block
-  pub head : Bool
 
 -- the blocks that are not in the set, each with its entry among the heads, which has one for each block. The entry of a
 -- block in the set says nothing.
@@ -53,6 +49,10 @@ pub record IsIn (log : List ℕ) (caller : ℕ × ℕ) : Type 0 where
 -- the callers of the blocks are ranges of the log
 abbrev pub HaveCallersIn : List ℕ → List Block → Type 0
 HaveCallersIn log blocks = AllByRecursion (λ b. IsIn log b.caller) blocks
+
+-- so are those of the leaked blocks
+abbrev pub AreLeaksIn : List ℕ → List Leak → Type 0
+AreLeaksIn log leaks = AllByRecursion (λ l. IsIn log l.block.caller) leaks
 
 -- the caller's bytes in the log, or a question mark if there is none. Rows go by this text, so that a caller which
 -- is itself a question mark shares its row with the blocks that have none.

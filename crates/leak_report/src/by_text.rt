@@ -1,25 +1,20 @@
 //! Rows of leaked blocks in the order of their callers' texts.
 ghost use Rattle.std.specs.Prelude.{◌≡◌, IfOk};
-ghost use Rattle.leak_report.specs.Totals.{leaks_in};
 ghost use Rattle.leak_report.specs.Listing.{AreByText, AreRanked, IsComplete, order_after};
 
 use crate::grouping::{Key, first_row, grouped_rows, leaks_by_place, longer_row};
+use crate::leaked::Leak;
 use crate::lines::caller_text;
 use crate::totals::CallerRow;
-use leak_blocks::Block;
 use std::alloc::{AllocError, Global};
 use std::cmp::{Ordering, Reverse};
 
-/// Blocks, some of which leaked, and the log that their callers are ranges of.
+/// Leaked blocks, and the log that their callers are ranges of.
 #[derive(Clone, Copy)]
 pub(crate) struct Leaked<'a> {
     /// The bytes after which the eight that give a text its place begin.
     pub(crate) prefix: &'a [u8],
-    pub(crate) blocks: &'a [Block],
-    /// For each block, whether it is marked. The others leaked.
-    pub(crate) set: &'a [bool],
-    /// For each block, whether it is a head. The entries of marked blocks say nothing.
-    pub(crate) heads: &'a [bool],
+    pub(crate) leaks: &'a [Leak],
     pub(crate) log: &'a [u8],
 }
 
@@ -40,33 +35,25 @@ fn order(last: Option<Key>, key: Key) -> Ordering
 fn rows_by_text(alloc: Global, leaked: &Leaked) -> Result<Vec<CallerRow>, AllocError>
     requires { IsComplete leaked.now }
     ensures { let l = leaked.now in
-        IfOk result (λ rows. AreByText l.prefix.now l.log.now
-        (leaks_in l.set.now l.heads.now l.blocks.now) rows.items) }
+        IfOk result (λ rows. AreByText l.prefix.now l.log.now l.leaks.now rows.items) }
 {
-    let Leaked {
-        prefix,
-        blocks,
-        set,
-        heads,
-        log,
-    } = *leaked;
-    let leaks = leaks_by_place(alloc, prefix, blocks, set, log)?;
+    let Leaked { prefix, leaks, log } = *leaked;
+    let placed = leaks_by_place(alloc, prefix, leaks, log)?;
     let mut rows = Vec::new(alloc);
     let mut last = None;
-    for leak in leaks.as_slice() {
-        let block = &blocks[leak.number];
-        let head = heads[leak.number];
-        let key = (leak.place, caller_text(log, block.caller));
+    for at in placed.as_slice() {
+        let leak = &leaks[at.number];
+        let key = (at.place, caller_text(log, leak.block.caller));
         match order(last, key) {
             Ordering::Less => {
-                rows.push(first_row(block, head))?;
+                rows.push(first_row(leak))?;
                 last = Some(key);
             }
             Ordering::Equal => {
                 let end = rows.len() - 1;
-                rows[end] = longer_row(rows[end], block, head);
+                rows[end] = longer_row(rows[end], leak);
             }
-            Ordering::Greater => return grouped_rows(alloc, leaked, leaks.as_slice()),
+            Ordering::Greater => return grouped_rows(alloc, leaked, placed.as_slice()),
         }
     }
     Ok(rows)
@@ -77,8 +64,7 @@ fn rows_by_text(alloc: Global, leaked: &Leaked) -> Result<Vec<CallerRow>, AllocE
 pub(crate) fn ranked_rows(alloc: Global, leaked: &Leaked) -> Result<Vec<CallerRow>, AllocError>
     requires { IsComplete leaked.now }
     ensures { let l = leaked.now in
-        IfOk result (λ rows. AreRanked l.prefix.now l.log.now
-        (leaks_in l.set.now l.heads.now l.blocks.now) rows.items) }
+        IfOk result (λ rows. AreRanked l.prefix.now l.log.now l.leaks.now rows.items) }
 {
     let mut rows = rows_by_text(alloc, leaked)?;
     rows.sort_by_key(|row| Reverse(row.bytes))?;

@@ -1,15 +1,15 @@
 //! Leaked blocks by the text of their caller.
-ghost use Rattle.std.specs.Prelude.{◌≡◌, None, Some, length, IfOk, OnOk, IfSome};
+ghost use Rattle.std.specs.Prelude.{◌≡◌, None, Some, IfOk, OnOk, IfSome};
 ghost use Rattle.std.specs.BTreeMap.{get, values, IsOrdered};
-ghost use Rattle.leak_report.specs.Totals.{leaks_in, HaveCallersIn};
+ghost use Rattle.leak_report.specs.Totals.{AreLeaksIn};
 ghost use Rattle.leak_report.specs.Groups.{HasRoom, HasLeakAdded, with_leak, order_of_keys, AreGroups};
 ghost use Rattle.leak_report.specs.Listing.{ArePlaced, AreByPlace, AreByText, IsComplete};
 
 use crate::by_text::Leaked;
+use crate::leaked::Leak;
 use crate::lines::caller_text;
 use crate::places::place;
 use crate::totals::CallerRow;
-use leak_blocks::Block;
 use std::alloc::{AllocError, Global};
 use std::collections::BTreeMap;
 
@@ -17,27 +17,27 @@ use std::collections::BTreeMap;
 pub(crate) type Key<'a> = (u64, &'a [u8]);
 
 /// The row of one leaked block.
-pub(crate) fn first_row(block: &Block, head: bool) -> CallerRow
-    ensures { result ≡ with_leak None (record { block = block.now; head = head }) }
+pub(crate) fn first_row(leak: &Leak) -> CallerRow
+    ensures { result ≡ with_leak None leak.now }
 {
-    let one = u64::from(head);
+    let one = u64::from(leak.head);
     CallerRow {
         blocks: 1,
-        bytes: block.size,
+        bytes: leak.block.size,
         heads: one,
-        caller: block.caller,
+        caller: leak.block.caller,
     }
 }
 
 /// The row with one more leaked block.
-pub(crate) fn longer_row(row: CallerRow, block: &Block, head: bool) -> CallerRow
-    requires { HasRoom row block.now }
-    ensures { result ≡ with_leak (Some row) (record { block = block.now; head = head }) }
+pub(crate) fn longer_row(row: CallerRow, leak: &Leak) -> CallerRow
+    requires { HasRoom row leak.now.block }
+    ensures { result ≡ with_leak (Some row) leak.now }
 {
-    let one = u64::from(head);
+    let one = u64::from(leak.head);
     CallerRow {
         blocks: row.blocks + 1,
-        bytes: row.bytes + block.size,
+        bytes: row.bytes + leak.block.size,
         heads: row.heads + one,
         caller: row.caller,
     }
@@ -47,18 +47,16 @@ pub(crate) fn longer_row(row: CallerRow, block: &Block, head: bool) -> CallerRow
 fn add<'a>(
     groups: &mut BTreeMap<Key<'a>, CallerRow>,
     key: Key<'a>,
-    block: &Block,
-    head: bool,
+    leak: &Leak,
 ) -> Result<(), AllocError>
-    requires { IfSome (get order_of_keys groups.old key) (λ row. HasRoom row block.now) }
-    ensures { OnOk result (HasLeakAdded groups.old groups.new key.entry
-        (record { block = block.now; head = head })) }
+    requires { IfSome (get order_of_keys groups.old key) (λ row. HasRoom row leak.now.block) }
+    ensures { OnOk result (HasLeakAdded groups.old groups.new key.entry leak.now) }
 {
     // One search if the text is new, as most are if there are many.
-    let Some(row) = groups.insert(key, first_row(block, head))? else {
+    let Some(row) = groups.insert(key, first_row(leak))? else {
         return Ok(());
     };
-    groups.insert(key, longer_row(row, block, head))?;
+    groups.insert(key, longer_row(row, leak))?;
     Ok(())
 }
 
@@ -67,49 +65,41 @@ fn add<'a>(
 pub(crate) struct PlacedLeak {
     /// The place of its caller's text.
     pub(crate) place: u64,
-    /// Its number among all blocks.
+    /// Its number among the leaked blocks.
     pub(crate) number: usize,
 }
 
-/// The blocks that the set leaves out, by ascending number.
+/// The leaked blocks with the places of their texts, by ascending number.
 fn leaks_with_places(
     alloc: Global,
     prefix: &[u8],
-    blocks: &[Block],
-    set: &[bool],
+    leaks: &[Leak],
     log: &[u8],
 ) -> Result<Vec<PlacedLeak>, AllocError>
-    requires one_each { length set.now ≡ length blocks.now }
-    requires in_log { HaveCallersIn log.now blocks.now }
-    ensures { IfOk result (λ leaks.
-        ArePlaced prefix.now log.now set.now blocks.now leaks.items) }
+    requires { AreLeaksIn log.now leaks.now }
+    ensures { IfOk result (λ placed. ArePlaced prefix.now log.now leaks.now placed.items) }
 {
-    let mut leaks = Vec::new(alloc);
-    for (i, block) in blocks.iter().enumerate() {
-        if !set[i] {
-            let place = place(prefix, caller_text(log, block.caller));
-            leaks.push(PlacedLeak { place, number: i })?;
-        }
+    let mut placed = Vec::with_capacity(alloc, leaks.len())?;
+    for (number, leak) in leaks.iter().enumerate() {
+        let place = place(prefix, caller_text(log, leak.block.caller));
+        placed.push(PlacedLeak { place, number })?;
     }
-    Ok(leaks)
+    Ok(placed)
 }
 
-/// The blocks that the set leaves out, by ascending place. Those of one place stay in order, and so do those of one text.
+/// The leaked blocks by ascending place. Those of one place stay in order, and so do those of one text.
 pub(crate) fn leaks_by_place(
     alloc: Global,
     prefix: &[u8],
-    blocks: &[Block],
-    set: &[bool],
+    leaks: &[Leak],
     log: &[u8],
 ) -> Result<Vec<PlacedLeak>, AllocError>
-    requires one_each { length set.now ≡ length blocks.now }
-    requires in_log { HaveCallersIn log.now blocks.now }
-    ensures { IfOk result (λ leaks.
-        AreByPlace prefix.now log.now set.now blocks.now leaks.items) }
+    requires { AreLeaksIn log.now leaks.now }
+    ensures { IfOk result (λ placed. AreByPlace prefix.now log.now leaks.now placed.items) }
 {
-    let mut leaks = leaks_with_places(alloc, prefix, blocks, set, log)?;
-    leaks.sort_by_key(|leak| leak.place)?;
-    Ok(leaks)
+    let mut placed = leaks_with_places(alloc, prefix, leaks, log)?;
+    placed.sort_by_key(|leak| leak.place)?;
+    Ok(placed)
 }
 
 /// The rows of the leaked blocks, by the text of their caller and its place by the prefix.
@@ -118,25 +108,20 @@ pub(crate) fn leaks_by_place(
 fn leaked_groups<'a>(
     alloc: Global,
     leaked: &Leaked<'a>,
-    leaks: &[PlacedLeak],
+    placed: &[PlacedLeak],
 ) -> Result<BTreeMap<Key<'a>, CallerRow>, AllocError>
     requires complete { IsComplete leaked.now }
     requires by_place { let l = leaked.now in
-        AreByPlace l.prefix.now l.log.now l.set.now l.blocks.now leaks.now }
+        AreByPlace l.prefix.now l.log.now l.leaks.now placed.now }
     ensures { let l = leaked.now in
-        IfOk result (AreGroups l.prefix.now l.log.now (leaks_in l.set.now l.heads.now l.blocks.now)) }
+        IfOk result (AreGroups l.prefix.now l.log.now l.leaks.now) }
 {
-    let Leaked {
-        blocks,
-        heads,
-        log,
-        ..
-    } = *leaked;
+    let Leaked { leaks, log, .. } = *leaked;
     let mut groups = BTreeMap::new(alloc);
-    for leak in leaks {
-        let block = &blocks[leak.number];
-        let key = (leak.place, caller_text(log, block.caller));
-        add(&mut groups, key, block, heads[leak.number])?;
+    for at in placed {
+        let leak = &leaks[at.number];
+        let key = (at.place, caller_text(log, leak.block.caller));
+        add(&mut groups, key, leak)?;
     }
     Ok(groups)
 }
@@ -145,16 +130,15 @@ fn leaked_groups<'a>(
 pub(crate) fn grouped_rows(
     alloc: Global,
     leaked: &Leaked,
-    leaks: &[PlacedLeak],
+    placed: &[PlacedLeak],
 ) -> Result<Vec<CallerRow>, AllocError>
     requires complete { IsComplete leaked.now }
     requires by_place { let l = leaked.now in
-        AreByPlace l.prefix.now l.log.now l.set.now l.blocks.now leaks.now }
+        AreByPlace l.prefix.now l.log.now l.leaks.now placed.now }
     ensures { let l = leaked.now in
-        IfOk result (λ rows. AreByText l.prefix.now l.log.now
-        (leaks_in l.set.now l.heads.now l.blocks.now) rows.items) }
+        IfOk result (λ rows. AreByText l.prefix.now l.log.now l.leaks.now rows.items) }
 {
-    let groups = leaked_groups(alloc, leaked, leaks)?;
+    let groups = leaked_groups(alloc, leaked, placed)?;
     rows_of(alloc, &groups)
 }
 

@@ -5,6 +5,7 @@ ghost use Rattle.leak_report.specs.Lines.{newline, sizes_line, undumped_line, lo
 ghost use Rattle.leak_report.specs.Misfits.{number_line, misfit_line};
 
 use crate::head::{Head, Two};
+use crate::leaked::Leak;
 use crate::totals::CallerRow;
 use leak_blocks::Block;
 use std::alloc::AllocError;
@@ -139,21 +140,19 @@ fn kind(head: bool) -> &'static str
 pub fn push_leak(
     out: &mut Vec<u8>,
     buffer: &mut String,
-    block: &Block,
-    head: bool,
+    leak: &Leak,
     log: &[u8],
 ) -> Result<(), AllocError>
-    requires { IsIn log.now block.now.caller }
-    ensures { OnOk result (out.new.items ≡ out.old.items
-        ++ leak_line log.now (record { block = block.now; head = head })) }
+    requires { IsIn log.now leak.now.block.caller }
+    ensures { OnOk result (out.new.items ≡ out.old.items ++ leak_line log.now leak.now) }
 {
     let Block {
         start,
         size,
         line,
         caller,
-    } = *block;
-    let kind = kind(head);
+    } = leak.block;
+    let kind = kind(leak.head);
     buffer.clear();
     write!(buffer, "leak 0x{start:x} {size} {line} {kind} ")?;
     push_line(out, buffer.as_str(), caller_text(log, caller))

@@ -1,8 +1,10 @@
 //! The lines of misfits: live blocks of which the core has no chunk in use.
 ghost use Rattle.std.specs.Prelude.{◌≡◌, ◌++◌, length, flat_map, string_bytes, IfSome, OnOk, option_copied};
 ghost use Rattle.leak_report.specs.Totals.{HaveCallersIn};
+ghost use Rattle.leak_report.specs.Sites.{HaveSites, bytes_at, sited};
 ghost use Rattle.leak_report.specs.Misfits.{misfits_in, misfit_sums, misfit_line, misfit_lines};
 
+use crate::caller_texts::CallerTexts;
 use crate::lines::{push_misfit, push_misfit_number};
 use crate::totals::count_clear;
 use leak_blocks::Block;
@@ -30,15 +32,17 @@ pub fn push_misfits(
     out: &mut Vec<u8>,
     blocks: &[Block],
     fits: Option<&[bool]>,
-    log: &[u8],
+    callers: CallerTexts<'_>,
 ) -> Result<(), AllocError>
     requires one_each { IfSome fits (λ f. length f.now ≡ length blocks.now) }
-    requires in_log { HaveCallersIn log.now blocks.now }
-    ensures { OnOk result (out.new.items ≡
-        out.old.items ++ misfit_lines log.now (option_copied fits.entry) blocks.now) }
+    requires sites { HaveSites callers (length blocks.now) }
+    requires in_bytes { HaveCallersIn (bytes_at callers) (sited callers blocks.now) }
+    ensures { OnOk result (out.new.items ≡ out.old.items
+        ++ misfit_lines (bytes_at callers.entry) (option_copied fits.entry)
+        (sited callers.entry blocks.now)) }
 {
     match fits {
-        Some(fits) => push_each(alloc, out, blocks, fits, log),
+        Some(fits) => push_each(alloc, out, blocks, fits, callers),
         None => Ok(()),
     }
 }
@@ -49,17 +53,21 @@ fn push_each(
     out: &mut Vec<u8>,
     blocks: &[Block],
     fits: &[bool],
-    log: &[u8],
+    callers: CallerTexts<'_>,
 ) -> Result<(), AllocError>
     requires one_each { length fits.now ≡ length blocks.now }
-    requires in_log { HaveCallersIn log.now blocks.now }
-    ensures { OnOk result (out.new.items ≡
-        out.old.items ++ flat_map (misfit_line log.now) (misfits_in fits.now blocks.now)) }
+    requires sites { HaveSites callers (length blocks.now) }
+    requires in_bytes { HaveCallersIn (bytes_at callers) (sited callers blocks.now) }
+    ensures { OnOk result (out.new.items ≡ out.old.items
+        ++ flat_map (misfit_line (bytes_at callers.entry))
+        (misfits_in fits.now (sited callers.entry blocks.now))) }
 {
+    let bytes = callers.bytes();
     let mut buffer = String::new(alloc);
-    for (i, block) in blocks.iter().enumerate() {
-        if !fits[i] {
-            push_misfit(out, &mut buffer, block, log)?;
+    for (i, fit) in fits.iter().enumerate() {
+        if !*fit {
+            let block = callers.site(blocks, i);
+            push_misfit(out, &mut buffer, &block, bytes)?;
         }
     }
     Ok(())

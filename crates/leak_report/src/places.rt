@@ -1,10 +1,10 @@
 //! Numbers by which texts are in order, so that most pairs of texts are compared without looking at their bytes.
 ghost use Rattle.std.specs.Prelude.{◌≡◌, ◌<◌, ◌≤◌, length, slice_index_or, IfSome};
 ghost use Rattle.leak_report.specs.Places.{number_of, place_of};
-ghost use Rattle.leak_report.specs.Totals.{HaveCallersIn};
+ghost use Rattle.leak_report.specs.Totals.{AreLeaksIn};
 
+use crate::leaked::Leak;
 use crate::lines::caller_text;
-use leak_blocks::Block;
 
 /// The byte at a place, or 0 if the text is shorter.
 fn byte(text: &[u8], i: usize) -> u64
@@ -64,28 +64,25 @@ fn shared(first: &[u8], text: &[u8]) -> Option<usize>
 }
 
 /// How many leaked blocks [`prefix_of`] looks at; at most twice as many.
-const SAMPLE: u64 = 2000;
+const SAMPLE: usize = 2000;
 
 /// The bytes that the callers of one file begin with, by which [`place`] tells apart the most. It looks at some of the
-/// leaked blocks, of which there are `leaked`, evenly spread among them.
+/// leaked blocks, evenly spread among them.
 ///
 /// Own rule: the file is that of the first leaked block with a caller, and callers of other files are passed over. The
 /// places are in order by any prefix.
-pub fn prefix_of<'a>(blocks: &[Block], set: &[bool], leaked: u64, log: &'a [u8]) -> &'a [u8]
-    requires one_each { length set.now ≡ length blocks.now }
-    requires in_log { HaveCallersIn log.now blocks.now }
+pub fn prefix_of<'a>(leaks: &[Leak], log: &'a [u8]) -> &'a [u8]
+    requires { AreLeaksIn log.now leaks.now }
 {
-    let distance = leaked / SAMPLE + 1;
+    let distance = leaks.len() / SAMPLE + 1;
     let mut prefix: &[u8] = b"?";
     let mut left = 0;
-    for (i, block) in blocks.iter().enumerate() {
-        if !set[i] {
-            if left == 0 {
-                left = distance;
-                prefix = shared_prefix(prefix, caller_text(log, block.caller));
-            }
-            left -= 1;
+    for leak in leaks {
+        if left == 0 {
+            left = distance;
+            prefix = shared_prefix(prefix, caller_text(log, leak.block.caller));
         }
+        left -= 1;
     }
     prefix
 }

@@ -1,25 +1,28 @@
 //! The whole report.
 ghost use Rattle.std.specs.Prelude.{◌≡◌, ◌++◌, ◌-◌, ◌≤◌, length, flat_map, codes, string_bytes, IfOk, IfSome, OnOk, option_copied};
 ghost use Rattle.std.specs.List.{AllByRecursion};
-ghost use Rattle.leak_report.specs.Totals.{bytes_of, leaks_in, IsIn, HaveCallersIn};
+ghost use Rattle.leak_report.specs.Totals.{AreLeaksIn, HaveCallersIn, IsIn, bytes_of};
 ghost use Rattle.leak_report.specs.Lines.{sizes_line, undumped_line, log_line, freed_lines, dead_lines, two_lines, heads_line, caller_line, leak_line};
 ghost use Rattle.leak_report.specs.Report.{text_of};
+ghost use Rattle.leak_report.specs.Sites.{HaveSites, bytes_at, sited};
 
+use crate::caller_texts::CallerTexts;
 use crate::head::Head;
+use crate::leaked::{Leak, leaks_of};
 use crate::lines::{
     push_caller, push_dead, push_freed, push_head, push_heads, push_leak, push_sizes, push_two,
 };
 use crate::misfits::{push_misfits, push_number};
 use crate::totals::{CallerRow, Totals};
-use leak_blocks::{Block, Live};
+use leak_blocks::Live;
 use std::alloc::{AllocError, Global};
 
 /// Makes the report of the live blocks: its lines in ASCII, each with its line feed, as docs/FORMAT.md has them.
 ///
 /// `set` and `heads` have one entry for each block. A block is marked if `set` says so; of the others the heads are those
 /// with that entry in `heads`, whose entries of marked blocks say nothing. `fits`, if it is given, has one entry for each
-/// block too, whether it fits its core; the report then tells the misfits. `log` is the log that the callers are ranges of,
-/// in bytes. It fails only if memory is refused.
+/// block too, whether it fits its core; the report then tells the misfits. `callers` says where the texts of the blocks'
+/// callers stand. It fails only if memory is refused.
 pub fn text(
     alloc: Global,
     head: &Head,
@@ -27,22 +30,27 @@ pub fn text(
     set: &[bool],
     heads: &[bool],
     fits: Option<&[bool]>,
-    log: &[u8],
+    callers: CallerTexts<'_>,
 ) -> Result<Vec<u8>, AllocError>
     requires one_each { length set.now ≡ length live.now.blocks }
     requires an_entry_each { length heads.now ≡ length live.now.blocks }
     requires a_fit_each { IfSome fits (λ f. length f.now ≡ length live.now.blocks) }
-    requires in_log { HaveCallersIn log.now live.now.blocks }
-    ensures { IfOk result (λ out. out.items ≡
-        text_of head.now live.now.blocks set.now heads.now (option_copied fits.entry) log.now) }
+    requires sites { HaveSites callers (length live.now.blocks) }
+    requires in_bytes { HaveCallersIn (bytes_at callers) (sited callers live.now.blocks) }
+    ensures { IfOk result (λ out. out.items ≡ text_of head.now (sited callers.entry live.now.blocks)
+        set.now heads.now (option_copied fits.entry) (bytes_at callers.entry)) }
 {
-    let totals = Totals::of(alloc, live, set, heads, log)?;
+    let blocks = live.blocks();
+    let bytes = callers.bytes();
+    let leaks = leaks_of(alloc, blocks, set, heads, callers)?;
+    let leaks = leaks.as_slice();
+    let totals = Totals::of_leaks(alloc, leaks, bytes)?;
     let mut first = sums(alloc, head, live, &totals)?;
-    push_number(&mut first, live.blocks(), fits)?;
+    push_number(&mut first, blocks, fits)?;
     let mut out = first.into_bytes();
-    push_callers(alloc, &mut out, totals.rows.as_slice(), log)?;
-    push_leaks(alloc, &mut out, live.blocks(), set, heads, log)?;
-    push_misfits(alloc, &mut out, live.blocks(), fits, log)?;
+    push_callers(alloc, &mut out, totals.rows.as_slice(), bytes)?;
+    push_leaks(alloc, &mut out, leaks, bytes)?;
+    push_misfits(alloc, &mut out, blocks, fits, callers)?;
     Ok(out)
 }
 
@@ -95,26 +103,20 @@ fn push_callers(
     Ok(())
 }
 
-/// Appends the lines of the blocks that the set leaves out.
+/// Appends the lines of leaked blocks.
 fn push_leaks(
     alloc: Global,
     out: &mut Vec<u8>,
-    blocks: &[Block],
-    set: &[bool],
-    heads: &[bool],
+    leaks: &[Leak],
     log: &[u8],
 ) -> Result<(), AllocError>
-    requires one_each { length set.now ≡ length blocks.now }
-    requires an_entry_each { length heads.now ≡ length blocks.now }
-    requires in_log { HaveCallersIn log.now blocks.now }
+    requires { AreLeaksIn log.now leaks.now }
     ensures { OnOk result (out.new.items ≡ out.old.items
-        ++ flat_map (leak_line log.now) (leaks_in set.now heads.now blocks.now)) }
+        ++ flat_map (leak_line log.now) leaks.now) }
 {
     let mut buffer = String::new(alloc);
-    for (i, block) in blocks.iter().enumerate() {
-        if !set[i] {
-            push_leak(out, &mut buffer, block, heads[i], log)?;
-        }
+    for leak in leaks {
+        push_leak(out, &mut buffer, leak, log)?;
     }
     Ok(())
 }

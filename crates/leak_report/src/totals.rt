@@ -1,8 +1,10 @@
 //! The leaked blocks in sum, and by caller.
 ghost use Rattle.std.specs.Prelude.{◌≡◌, ◌^◌, ◌<◌, length, not, count_by, IfOk};
-ghost use Rattle.leak_report.specs.Totals.{marked_in, leaked_in, leaks_in, bytes_of, heads_in, rows_of, HaveCallersIn};
+ghost use Rattle.leak_report.specs.Totals.{AreLeaksIn, HaveCallersIn, bytes_in, bytes_of, heads_in, leaked_in, leaks_in, marked_in, rows_of};
 
 use crate::by_text::{Leaked, ranked_rows};
+use crate::caller_texts::CallerTexts;
+use crate::leaked::{Leak, count_heads, leaked_bytes, leaks_of};
 use crate::places::prefix_of;
 use leak_blocks::{Block, Live};
 use std::alloc::{AllocError, Global};
@@ -57,42 +59,29 @@ impl Totals {
             ≡ rows_of log.now (leaks_in set.now heads.now live.now.blocks)) }
     {
         let blocks = live.blocks();
-        let _ = live.bytes(); // (for the proof: the sum of all sizes is a number)
-        let (number, bytes) = leaked_sizes(blocks, set);
-        let prefix = prefix_of(blocks, set, number, log);
-        let leaked = Leaked {
-            prefix,
-            blocks,
-            set,
-            heads,
-            log,
-        };
+        let leaks = leaks_of(alloc, blocks, set, heads, CallerTexts::OfLog(log))?;
+        Totals::of_leaks(alloc, leaks.as_slice(), log)
+    }
+
+    /// Sums up leaked blocks. The log's bytes are those that their callers are ranges of.
+    pub(crate) fn of_leaks(alloc: Global, leaks: &[Leak], log: &[u8]) -> Result<Totals, AllocError>
+        requires fits { bytes_in leaks.now < 2 ^ 64 }
+        requires in_log { AreLeaksIn log.now leaks.now }
+        ensures count { IfOk result (λ totals. totals.blocks ≡ length leaks.now) }
+        ensures bytes { IfOk result (λ totals. totals.bytes ≡ bytes_in leaks.now) }
+        ensures heads { IfOk result (λ totals. totals.heads ≡ heads_in leaks.now) }
+        ensures rows { IfOk result (λ totals. totals.rows.items ≡ rows_of log.now leaks.now) }
+    {
+        let prefix = prefix_of(leaks, log);
+        let leaked = Leaked { prefix, leaks, log };
         let rows = ranked_rows(alloc, &leaked)?;
         Ok(Totals {
-            blocks: number,
-            bytes,
-            heads: count_heads(blocks, set, heads),
+            blocks: leaks.len() as u64,
+            bytes: leaked_bytes(leaks),
+            heads: count_heads(leaks),
             rows,
         })
     }
-}
-
-/// The number of the blocks that the set leaves out, and the sum of their sizes. Few blocks leak, and the others are not read.
-fn leaked_sizes(blocks: &[Block], set: &[bool]) -> (u64, u64)
-    requires one_each { length set.now ≡ length blocks.now }
-    requires fits { bytes_of blocks.now < 2 ^ 64 }
-    ensures number { result.0 ≡ length (leaked_in set.now blocks.now) }
-    ensures bytes { result.1 ≡ bytes_of (leaked_in set.now blocks.now) }
-{
-    let mut number = 0;
-    let mut bytes = 0;
-    for (i, block) in blocks.iter().enumerate() {
-        if !set[i] {
-            number += 1;
-            bytes += block.size;
-        }
-    }
-    (number, bytes)
 }
 
 /// The number of the marked blocks, and the sum of their sizes.
@@ -111,21 +100,6 @@ pub fn marked_sizes(blocks: &[Block], set: &[bool]) -> (u64, u64)
         }
     }
     (number, bytes)
-}
-
-/// The number of the heads that the set leaves out.
-fn count_heads(blocks: &[Block], set: &[bool], heads: &[bool]) -> u64
-    requires one_each { length set.now ≡ length blocks.now }
-    requires an_entry_each { length heads.now ≡ length blocks.now }
-    ensures { result ≡ heads_in (leaks_in set.now heads.now blocks.now) }
-{
-    let mut number = 0;
-    for i in 0..blocks.len() {
-        if !set[i] && heads[i] {
-            number += 1;
-        }
-    }
-    number
 }
 
 /// How many of the marks are not set.

@@ -12,6 +12,7 @@ use crate::{
 };
 use leak_index::Sorted;
 use leak_pool::mark_alone;
+use leak_report::CallerTexts;
 use std::alloc::Global;
 
 /// Searches a core and its log by the rules on the caller's thread, with one list of claims.
@@ -39,5 +40,5 @@ pub fn find_alone<'a>(
     let marked = mark_alone(alloc, &input.image, &lookup, &roots, &input.live)?;
     let head = head_of(&input, &roots, None);
     let searched = searched_of(alloc, &input, &lookup, marked, head, consistency)?;
-    found_of(alloc, &input.live, searched, log)
+    found_of(alloc, &input.live, searched, CallerTexts::OfLog(log))
 }

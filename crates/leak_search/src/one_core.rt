@@ -13,6 +13,7 @@ use crate::{
     found_of, mark_input, read_input, searched_of,
 };
 use leak_pool::Gate;
+use leak_report::CallerTexts;
 use std::alloc::Global;
 
 /// Searches a core and its log by the rules and by the workers.
@@ -73,7 +74,7 @@ pub fn find_in<R: std::thread::Threads + Sync, G: Gate + Sync>(
     let team = workers.team(alloc);
     let consistency = consistency_of_one_by(&team, input, lists_misfits, rules.other_heap)?;
     let searched = search_from(workers, alloc, input, consistency, rules)?;
-    found_of(alloc, &input.live, searched, log)
+    found_of(alloc, &input.live, searched, CallerTexts::OfLog(log))
 }
 
 /// Does all of [`find_in`] but ask which blocks fit, which [`consistency_of_one_by`] does, and but write the report, which

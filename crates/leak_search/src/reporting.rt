@@ -4,6 +4,7 @@ ghost use Rattle.std.specs.Prelude.{◌≡◌, IfOk, IfErr, IfSome, length, opti
 ghost use Rattle.leak_elf.specs.Words.{word_of};
 ghost use Rattle.leak_scan.specs.Heads.{heads_of};
 ghost use Rattle.leak_report.specs.Report.{text_of};
+ghost use Rattle.leak_report.specs.Sites.{HaveSites, bytes_at, sited};
 ghost use Rattle.leak_report.specs.Totals.{HaveCallersIn, leaked_in};
 ghost use Rattle.leak_search.specs.Report.{head_with};
 
@@ -14,7 +15,7 @@ use crate::signing::Consistency;
 use leak_blocks::Live;
 use leak_index::Lookup;
 use leak_pool::Marked;
-use leak_report::{Head, Two, count_clear, text};
+use leak_report::{CallerTexts, Head, Two, count_clear, text};
 use leak_roots::Roots;
 use leak_scan::heads;
 use std::alloc::{AllocError, Global};
@@ -92,21 +93,22 @@ pub fn searched_of<L: Lookup>(
     Ok(searched_by(marked, heads, head, consistency))
 }
 
-/// The report of the live blocks that were searched. Their callers are ranges of `log`, whichever bytes these are. If it is known
+/// The report of the live blocks that were searched. `callers` says where the texts of their callers stand. If it is known
 /// which blocks fit, it tells the misfits.
 pub fn found_of(
     alloc: Global,
     live: &Live,
     searched: Searched,
-    log: &[u8],
+    callers: CallerTexts<'_>,
 ) -> Result<Found, FindError>
     requires one_each { length searched.set.items ≡ length live.now.blocks }
     requires an_entry_each { length searched.heads.items ≡ length live.now.blocks }
     requires a_fit_each { IfSome searched.fits (λ v. length v.items ≡ length live.now.blocks) }
-    requires in_log { HaveCallersIn log.now live.now.blocks }
+    requires sites { HaveSites callers (length live.now.blocks) }
+    requires in_bytes { HaveCallersIn (bytes_at callers) (sited callers live.now.blocks) }
     ensures report { IfOk result (λ found. found.report.items ≡
-        text_of searched.head live.now.blocks searched.set.items searched.heads.items
-        (option_map (λ v. v.items) searched.fits) log.now) }
+        text_of searched.head (sited callers.entry live.now.blocks) searched.set.items
+        searched.heads.items (option_map (λ v. v.items) searched.fits) (bytes_at callers.entry)) }
     ensures leaked { IfOk result (λ found.
         found.leaked ≡ length (leaked_in searched.set.items live.now.blocks)) }
     ensures claims { IfOk result (λ found. found.claims ≡ searched.claims) }
@@ -116,7 +118,7 @@ pub fn found_of(
     let set = searched.set.as_slice();
     let fits = searched.fits.as_deref();
     let heads = searched.heads.as_slice();
-    let report = text(alloc, &searched.head, live, set, heads, fits, log)?;
+    let report = text(alloc, &searched.head, live, set, heads, fits, callers)?;
     Ok(Found {
         report,
         leaked: count_clear(set),

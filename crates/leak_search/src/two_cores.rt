@@ -24,7 +24,7 @@ use leak_later::{
     Carry, Retraced, absent_are_fresh, carry, differing, retrace, same_words_lead_within,
 };
 use leak_pool::{Gate, Marked};
-use leak_report::Two;
+use leak_report::{CallerTexts, Two};
 use leak_scan::Pages;
 use std::alloc::Global;
 use std::thread::Threads;
@@ -194,5 +194,5 @@ pub fn find_two<R: Threads + Sync, G: Gate + Sync>(
         head,
         consistency,
     )?;
-    found_of(alloc, &second.live, searched, log2)
+    found_of(alloc, &second.live, searched, CallerTexts::OfLog(log2))
 }

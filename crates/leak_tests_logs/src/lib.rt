@@ -5,6 +5,10 @@
 #[cfg(test)]
 mod comparisons;
 
+// The numbers of texts, as a list.
+#[cfg(test)]
+mod numbers;
+
 // Reading an input piece by piece.
 #[cfg(test)]
 mod pieces;

@@ -1,9 +1,10 @@
 //! A log is replayed while it is read.
 
 use crate::comparisons::{same, same_in};
+use crate::numbers::listed;
 use leak_blocks::{Block, replay_bytes, replay_with_spans};
 use leak_mtrace::LogError;
-use leak_replaying::{LogByTexts, Numbers, replay_reading, widened};
+use leak_replaying::{LogByTexts, Numbers, replay_reading};
 use leak_streams::ReadFault;
 use leak_team::Team;
 use leak_tests_inputs::examples::ONE_BLOCK;
@@ -89,7 +90,7 @@ fn reads_of_any_length_give_the_blocks_and_their_texts(rt: HostRuntime) -> Resul
         same_in(&rt, &step, texts.bytes.as_slice(), wanted);
         let places = [(0, 18), (18, 36), (36, 37)];
         same_in(&rt, &step, texts.places.as_slice(), places.as_slice());
-        let numbers = widened(rt.alloc(), texts.numbers)?;
+        let numbers = listed(rt.alloc(), &texts.numbers)?;
         same_in(&rt, &step, numbers.as_slice(), [0, 0, 2].as_slice());
     }
     Ok(())
@@ -220,7 +221,7 @@ fn a_long_log_has_the_blocks_of_the_whole_and_each_its_text(rt: HostRuntime) -> 
         same_in(&rt, &step, texts.places.len(), CALLERS);
         let is_many = matches!(&texts.numbers, Numbers::Many(_));
         same_in(&rt, &step, is_many, true);
-        let numbers = widened(rt.alloc(), texts.numbers)?;
+        let numbers = listed(rt.alloc(), &texts.numbers)?;
         same_in(&rt, &step, numbers.len(), BLOCKS);
         for (block, number) in numbers.iter().enumerate() {
             same_in(&rt, &block, *number as usize, block % CALLERS);
@@ -262,7 +263,7 @@ fn a_log_whose_allocations_end_has_the_blocks_of_the_whole(rt: HostRuntime) -> R
         let (replayed, _spans) = read?;
         same_in(&rt, &step, replayed.live.blocks(), wanted.live.blocks());
         same_in(&rt, &step, replayed.live.unknown(), 0);
-        let numbers = widened(rt.alloc(), texts.numbers)?;
+        let numbers = listed(rt.alloc(), &texts.numbers)?;
         same_in(&rt, &step, numbers.as_slice(), [1, 2, 0, 1, 2].as_slice());
     }
     Ok(())

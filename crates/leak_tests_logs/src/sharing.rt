@@ -1,9 +1,10 @@
 //! The lines of a log are read by one worker or side by side by several. What is read is the same.
 
 use crate::comparisons::{same, same_in};
+use crate::numbers::listed;
 use leak_blocks::{Replayed, SmallSpans};
 use leak_mtrace::LogError;
-use leak_replaying::{LogByTexts, replay_reading, widened};
+use leak_replaying::{LogByTexts, replay_reading};
 use leak_streams::ReadFault;
 use leak_team::Team;
 use leak_tests_inputs::fakes::Steps;
@@ -102,7 +103,7 @@ fn same_by_all<T: AllocGlobal + Threads + Sync + Abort>(
 ) -> Result<(), Fail> {
     let LogByTexts { read: one, texts } = replay(rt, 1, log, step, size)?;
     let (bytes, places) = (texts.bytes, texts.places);
-    let numbers = widened(rt.alloc(), texts.numbers)?;
+    let numbers = listed(rt.alloc(), &texts.numbers)?;
     for workers in WORKERS {
         let LogByTexts { read, texts } = replay(rt, workers, log, step, size)?;
         match (&read, &one) {
@@ -112,7 +113,7 @@ fn same_by_all<T: AllocGlobal + Threads + Sync + Abort>(
         }
         same_in(rt, &workers, texts.bytes.as_slice(), bytes.as_slice());
         same_in(rt, &workers, texts.places.as_slice(), places.as_slice());
-        let found = widened(rt.alloc(), texts.numbers)?;
+        let found = listed(rt.alloc(), &texts.numbers)?;
         same_in(rt, &workers, found.as_slice(), numbers.as_slice());
     }
     Ok(())

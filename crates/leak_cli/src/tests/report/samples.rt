@@ -5,7 +5,7 @@ ghost use Rattle.leak_report.specs.Totals.{HaveCallersIn};
 
 use leak_blocks::{Block, replay};
 use leak_mtrace::Log;
-use leak_report::{Head, text};
+use leak_report::{CallerTexts, Head, text};
 use std::alloc::Global;
 use std::process::Abort;
 use std::test::Fail;
@@ -42,5 +42,6 @@ pub(crate) fn report(
     assert!(rt; live.blocks().len() == heads.len());
     assert!(rt; have_callers_in(live.blocks(), log.as_bytes()));
     let log = log.as_bytes();
-    Ok(text(alloc, head, &live, marked, heads, None, log)?)
+    let callers = CallerTexts::OfLog(log);
+    Ok(text(alloc, head, &live, marked, heads, None, callers)?)
 }

@@ -10,7 +10,7 @@ use Rattle.leak_report.proofs.grouping.add.Goals as goal
 
 pub returns-in_default : goal.returns-in_default
 returns-in_default c =
-    let leak : Leak = record { block = c.args.block.now; head = c.args.head } in
+    let leak : Leak = c.args.leak.now in
     let none : get order_of_keys c.args.groups.now c.args.key ≡ None = sym c.in_ok-row.ensures.old ∙ c.in_default.is in
     let row : c.first_row.result ≡ with_leak (get order_of_keys c.args.groups.now c.args.key) leak =
     c.first_row.ensures ∙ ap (λ (o : Option CallerRow). with_leak o leak) (sym none) in
@@ -19,7 +19,7 @@ returns-in_default c =
 
 pub returns : goal.returns
 returns c =
-    let leak : Leak = record { block = c.args.block.now; head = c.args.head } in
+    let leak : Leak = c.args.leak.now in
     let found : get order_of_keys c.args.groups.now c.args.key ≡ Some c.in-Some.row = sym c.in_ok-row.ensures.old ∙ c.in-Some.is in
     let row : c.longer_row.result ≡ with_leak (get order_of_keys c.args.groups.now c.args.key) leak =
     c.longer_row.ensures ∙ ap (λ (o : Option CallerRow). with_leak o leak) (sym found) in

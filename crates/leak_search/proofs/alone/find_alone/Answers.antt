@@ -18,8 +18,8 @@ returns-in_err-marked-clause-refused c =
     let p = err_from_is_err_and c.from_residual-in_err-marked.result c.from_residual-in_err-marked.ensures.1 in
     rw (p.1) (λ other. marking_refused _ _ c.in_ok-input.input _ _ c.in_ok-input.ensures.ok p.2 (λ e. c.in_err-marked.ensures.many.0 (ap Err e)) other)
 
-pub found_of-requires-clause-in_log : goal.found_of-requires-clause-in_log
-found_of-requires-clause-in_log c = input_callers _ _ _ c.in_ok-input.ensures.ok
+pub found_of-requires-clause-in_bytes : goal.found_of-requires-clause-in_bytes
+found_of-requires-clause-in_bytes c = input_callers _ _ _ c.in_ok-input.ensures.ok
 
 pub found_of-requires-clause-an_entry_each : goal.found_of-requires-clause-an_entry_each
 found_of-requires-clause-an_entry_each c =

@@ -26,8 +26,8 @@ found_of-requires-clause-a_fit_each g c =
     let read = c.requires.read in
     told_each _ _ read.0 _ _ _ _ c.in_ok-searched.searched (searches_by _ _ read.0 _ _ _ _ c.args.input.now c.in_ok-consistency.consistency.fits c.in_ok-searched.searched read.1 (c.in_ok-searched.ensures.marks _ read.0 read.1) c.in_ok-searched.ensures.fits c.in_ok-consistency.ensures.fits) _ (ap length (input_blocks _ _ read.0 _ read.1))
 
-pub found_of-requires-clause-in_log : goal.found_of-requires-clause-in_log
-found_of-requires-clause-in_log g c = input_callers _ _ _ c.requires.read
+pub found_of-requires-clause-in_bytes : goal.found_of-requires-clause-in_bytes
+found_of-requires-clause-in_bytes g c = input_callers _ _ _ c.requires.read
 
 pub returns-clause-ok : goal.returns-clause-ok
 returns-clause-ok g c = ok_by _ _ (λ found is.

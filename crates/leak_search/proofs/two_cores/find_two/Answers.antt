@@ -25,8 +25,8 @@ mark_later-requires-clause-carried g c κs within = carried _ _ _ _ _ _ _ _ _ _ 
 pub numbers_of-two-requires : goal.numbers_of-two-requires
 numbers_of-two-requires g c = carried _ _ _ _ _ _ _ _ _ _ c.in_ok-inputs.ensures.read.second (c.in_ok-between.ensures.between _ _ (paired _ _ _ _ _ c.in_ok-inputs.ensures.read))
 
-pub found_of-requires-clause-in_log : goal.found_of-requires-clause-in_log
-found_of-requires-clause-in_log g c = input_callers _ _ _ (c.in_ok-inputs.ensures.read.now, c.in_ok-inputs.ensures.read.second)
+pub found_of-requires-clause-in_bytes : goal.found_of-requires-clause-in_bytes
+found_of-requires-clause-in_bytes g c = input_callers _ _ _ (c.in_ok-inputs.ensures.read.now, c.in_ok-inputs.ensures.read.second)
 
 pub found_of-requires-clause-an_entry_each : goal.found_of-requires-clause-an_entry_each
 found_of-requires-clause-an_entry_each g c =
