@@ -1,20 +1,20 @@
 //! The whole report.
 ghost use Rattle.std.specs.Prelude.{◌≡◌, ◌++◌, ◌-◌, ◌≤◌, length, flat_map, codes, string_bytes, IfOk, IfSome, OnOk, option_copied};
 ghost use Rattle.std.specs.List.{AllByRecursion};
-ghost use Rattle.leak_report.specs.Totals.{AreLeaksIn, HaveCallersIn, IsIn, bytes_of};
+ghost use Rattle.leak_report.specs.Totals.{HaveCallersIn, IsIn, bytes_of, leaks_in};
 ghost use Rattle.leak_report.specs.Lines.{sizes_line, undumped_line, log_line, freed_lines, dead_lines, two_lines, heads_line, caller_line, leak_line};
 ghost use Rattle.leak_report.specs.Report.{text_of};
 ghost use Rattle.leak_report.specs.Sites.{HaveSites, bytes_at, sited};
 
 use crate::caller_texts::CallerTexts;
 use crate::head::Head;
-use crate::leaked::{Leak, leaks_of};
+use crate::leaked::Leak;
 use crate::lines::{
     push_caller, push_dead, push_freed, push_head, push_heads, push_leak, push_sizes, push_two,
 };
 use crate::misfits::{push_misfits, push_number};
 use crate::totals::{CallerRow, Totals};
-use leak_blocks::Live;
+use leak_blocks::{Block, Live};
 use std::alloc::{AllocError, Global};
 
 /// Makes the report of the live blocks: its lines in ASCII, each with its line feed, as docs/FORMAT.md has them.
@@ -41,15 +41,12 @@ pub fn text(
         set.now heads.now (option_copied fits.entry) (bytes_at callers.entry)) }
 {
     let blocks = live.blocks();
-    let bytes = callers.bytes();
-    let leaks = leaks_of(alloc, blocks, set, heads, callers)?;
-    let leaks = leaks.as_slice();
-    let totals = Totals::of_leaks(alloc, leaks, bytes)?;
+    let totals = Totals::of_sites(alloc, live, set, heads, callers)?;
     let mut first = sums(alloc, head, live, &totals)?;
     push_number(&mut first, blocks, fits)?;
     let mut out = first.into_bytes();
-    push_callers(alloc, &mut out, totals.rows.as_slice(), bytes)?;
-    push_leaks(alloc, &mut out, leaks, bytes)?;
+    push_callers(alloc, &mut out, totals.rows.as_slice(), callers.bytes())?;
+    push_leaks(alloc, &mut out, blocks, set, heads, callers)?;
     push_misfits(alloc, &mut out, blocks, fits, callers)?;
     Ok(out)
 }
@@ -103,20 +100,30 @@ fn push_callers(
     Ok(())
 }
 
-/// Appends the lines of leaked blocks.
+/// Appends the lines of the blocks that the set leaves out.
 fn push_leaks(
     alloc: Global,
     out: &mut Vec<u8>,
-    leaks: &[Leak],
-    log: &[u8],
+    blocks: &[Block],
+    set: &[bool],
+    heads: &[bool],
+    callers: CallerTexts<'_>,
 ) -> Result<(), AllocError>
-    requires { AreLeaksIn log.now leaks.now }
-    ensures { OnOk result (out.new.items ≡ out.old.items
-        ++ flat_map (leak_line log.now) leaks.now) }
+    requires one_each { length set.now ≡ length blocks.now }
+    requires an_entry_each { length heads.now ≡ length blocks.now }
+    requires sites { HaveSites callers (length blocks.now) }
+    requires in_bytes { HaveCallersIn (bytes_at callers) (sited callers blocks.now) }
+    ensures { OnOk result (out.new.items ≡ out.old.items ++ flat_map (leak_line (bytes_at callers.entry))
+        (leaks_in set.now heads.now (sited callers.entry blocks.now))) }
 {
+    let bytes = callers.bytes();
     let mut buffer = String::new(alloc);
-    for leak in leaks {
-        push_leak(out, &mut buffer, leak, log)?;
+    for (i, marked) in set.iter().enumerate() {
+        if !*marked {
+            let block = callers.site(blocks, i);
+            let head = heads[i];
+            push_leak(out, &mut buffer, &Leak { block, head }, bytes)?;
+        }
     }
     Ok(())
 }

@@ -1,5 +1,6 @@
 //! The leaked blocks in sum, and by caller.
 ghost use Rattle.std.specs.Prelude.{◌≡◌, ◌^◌, ◌<◌, length, not, count_by, IfOk};
+ghost use Rattle.leak_report.specs.Sites.{HaveSites, bytes_at, sited};
 ghost use Rattle.leak_report.specs.Totals.{AreLeaksIn, HaveCallersIn, bytes_in, bytes_of, heads_in, leaked_in, leaks_in, marked_in, rows_of};
 
 use crate::by_text::{Leaked, ranked_rows};
@@ -58,13 +59,38 @@ impl Totals {
             (λ totals. totals.rows.items
             ≡ rows_of log.now (leaks_in set.now heads.now live.now.blocks)) }
     {
+        Totals::of_sites(alloc, live, set, heads, CallerTexts::OfLog(log))
+    }
+
+    /// The same, wherever the texts of the callers stand.
+    pub(crate) fn of_sites(
+        alloc: Global,
+        live: &Live,
+        set: &[bool],
+        heads: &[bool],
+        callers: CallerTexts<'_>,
+    ) -> Result<Totals, AllocError>
+        requires one_each { length set.now ≡ length live.now.blocks }
+        requires an_entry_each { length heads.now ≡ length live.now.blocks }
+        requires sites { HaveSites callers (length live.now.blocks) }
+        requires in_bytes { HaveCallersIn (bytes_at callers) (sited callers live.now.blocks) }
+        ensures count { let sites = sited callers.entry live.now.blocks in
+            IfOk result (λ totals. totals.blocks ≡ length (leaked_in set.now sites)) }
+        ensures bytes { let sites = sited callers.entry live.now.blocks in
+            IfOk result (λ totals. totals.bytes ≡ bytes_of (leaked_in set.now sites)) }
+        ensures heads { let sites = sited callers.entry live.now.blocks in
+            IfOk result (λ totals. totals.heads ≡ heads_in (leaks_in set.now heads.now sites)) }
+        ensures rows { let sites = sited callers.entry live.now.blocks in
+            IfOk result (λ totals. totals.rows.items
+            ≡ rows_of (bytes_at callers.entry) (leaks_in set.now heads.now sites)) }
+    {
         let blocks = live.blocks();
-        let leaks = leaks_of(alloc, blocks, set, heads, CallerTexts::OfLog(log))?;
-        Totals::of_leaks(alloc, leaks.as_slice(), log)
+        let leaks = leaks_of(alloc, blocks, set, heads, callers)?;
+        Totals::of_leaks(alloc, leaks.as_slice(), callers.bytes())
     }
 
     /// Sums up leaked blocks. The log's bytes are those that their callers are ranges of.
-    pub(crate) fn of_leaks(alloc: Global, leaks: &[Leak], log: &[u8]) -> Result<Totals, AllocError>
+    fn of_leaks(alloc: Global, leaks: &[Leak], log: &[u8]) -> Result<Totals, AllocError>
         requires fits { bytes_in leaks.now < 2 ^ 64 }
         requires in_log { AreLeaksIn log.now leaks.now }
         ensures count { IfOk result (λ totals. totals.blocks ≡ length leaks.now) }
